@@ -1,0 +1,10 @@
+pub mod Bytes
+pub mod Field
+pub mod SBox
+pub mod Lists
+pub mod KeyExpansion
+pub mod Shape
+pub mod Matrix
+pub mod Rounds
+pub mod Inverse
+pub mod Examples

@@ -1,0 +1,38 @@
+-- FIPS 197, section 3: bytes, words of four bytes, and the state, whose four columns are words.
+use mathlib.Core.List.{List, [], _∷_}
+use Prim.Native.Nat.{ℕ, zero, suc, _+_, _*_, _/_, _%_}
+use lib.ListN.{getD}
+
+abbrev pub Word : Type 0
+Word = List ℕ
+
+abbrev pub State : Type 0
+State = List Word
+
+-- Byte r of a word.
+abbrev pub byte : Word → ℕ → ℕ
+byte w r = getD w r 0
+
+-- Column c of a state.
+abbrev pub column : State → ℕ → Word
+column s c = getD s c []
+
+-- The byte s[r, c].
+abbrev pub cell : State → ℕ → ℕ → ℕ
+cell s r c = byte (column s c) r
+
+-- f 0, f 1, .., n of them.
+abbrev pub listOf : {A : Type 0} → ℕ → (ℕ → A) → List A
+listOf zero f = []
+listOf (suc n) f = f 0 ∷ listOf n (λ i. f (suc i))
+
+abbrev pub four : {A : Type 0} → (ℕ → A) → List A
+four f = listOf 4 f
+
+-- 3.4: s[r, c] = in[r + 4c].
+abbrev pub load : List ℕ → State
+load b = four (λ c. four (λ r. getD b (r + 4 * c) 0))
+
+-- 3.4: out[r + 4c] = s[r, c].
+abbrev pub store : State → List ℕ
+store s = listOf 16 (λ i. cell s (i % 4) (i / 4))

@@ -1,0 +1,1 @@
+// Bytes and byte strings: laws that every layer above shares.
