@@ -5,7 +5,7 @@ use Prim.Native.Nat.{ℕ, zero, suc, _<_}
 use native.Mathlib.Omega.{arith}
 use lib.ListN.{getD}
 use Rattle.octets.proofs.Xor.{⊕-back}
-use Rattle.fips197.specs.State.{Word, State, load, store}
+use Rattle.fips197.specs.State.{Word, State}
 use Rattle.fips197.specs.Cipher.{subByte, subBytes, shiftRows, matrix, mixColumns, addWord, addRoundKey, round, rounds, cipher}
 use Rattle.fips197.specs.InvCipher.{invSubByte, invSubBytes, invShiftRows, invMixColumns, invRound, invRounds, invCipher}
 use Rattle.fips197.proofs.SBox.{inv-sub-sub, sub-inv-sub}
@@ -128,6 +128,3 @@ module _ (w : List State) (keys : (n : ℕ) → n < 11 → IsState (getD w n [])
       (add-add (inv-sub-shift-state (inv-rounds-state 9 (omega arith) (end g))) (keys 0 (omega arith)))
       ∙ ap (λ (x : State). addRoundKey x (getD w 10 [])) (rounds-inv-rounds 9 (omega arith) (end g))
       ∙ add-add g (keys 10 (omega arith))
-
-pub load-store : {s : State} → IsState s → load (store s) ≡ s
-load-store (state (word a b c d) (word e f g h) (word i j k l) (word m n o p)) = refl

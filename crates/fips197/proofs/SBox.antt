@@ -9,6 +9,10 @@ use Rattle.fips197.specs.Cipher.{subByte}
 use Rattle.fips197.specs.InvCipher.{invSubByte}
 use Rattle.fips197.proofs.Bytes.{bytes-equal, bytes-below}
 
+-- A table that has f of a byte at the byte's place.
+pub record Tabulates (f : ℕ → ℕ) (table : List ℕ) : Type 0 where
+  pub at : (x : ℕ) → x < 256 → getD table x 0 ≡ f x
+
 unfoldable pub sbox : List ℕ
 sbox =
     99 ∷ 124 ∷ 119 ∷ 123 ∷ 242 ∷ 107 ∷ 111 ∷ 197 ∷ 48 ∷ 1 ∷ 103 ∷ 43 ∷ 254 ∷ 215 ∷ 171 ∷ 118
@@ -53,13 +57,13 @@ unfolding _⊕_ _·_ xtime
 inverse-product = bytes-equal (λ b. b · inverse b) (λ b. min 1 b) tt
 
 -- the table meets its rule at all 256 entries
-pub sbox-rule : (a : ℕ) → a < 256 → getD sbox a 0 ≡ subByte a
+pub sbox-rule : Tabulates subByte sbox
 unfolding _⊕_ _·_ xtime subByte sbox
-sbox-rule = bytes-equal (λ a. getD sbox a 0) (λ a. subByte a) tt
+sbox-rule = record { at = bytes-equal (λ a. getD sbox a 0) (λ a. subByte a) tt }
 
-pub inv-sbox-rule : (a : ℕ) → a < 256 → getD inv-sbox a 0 ≡ invSubByte a
+pub inv-sbox-rule : Tabulates invSubByte inv-sbox
 unfolding _⊕_ _·_ xtime invSubByte inv-sbox
-inv-sbox-rule = bytes-equal (λ a. getD inv-sbox a 0) (λ a. invSubByte a) tt
+inv-sbox-rule = record { at = bytes-equal (λ a. getD inv-sbox a 0) (λ a. invSubByte a) tt }
 
 sbox-below : (a : ℕ) → a < 256 → getD sbox a 0 < 256
 unfolding sbox
@@ -79,17 +83,17 @@ unfolding sbox inv-sbox
 sbox-inv-sbox = bytes-equal (λ a. getD sbox (getD inv-sbox a 0) 0) (λ a. a) tt
 
 pub sub-below : (a : ℕ) → a < 256 → subByte a < 256
-sub-below a h = subst (λ (x : ℕ). x < 256) (sbox-rule a h) (sbox-below a h)
+sub-below a h = subst (λ (x : ℕ). x < 256) (sbox-rule .at a h) (sbox-below a h)
 
 pub inv-sub-below : (a : ℕ) → a < 256 → invSubByte a < 256
-inv-sub-below a h = subst (λ (x : ℕ). x < 256) (inv-sbox-rule a h) (inv-sbox-below a h)
+inv-sub-below a h = subst (λ (x : ℕ). x < 256) (inv-sbox-rule .at a h) (inv-sbox-below a h)
 
 pub inv-sub-sub : (a : ℕ) → a < 256 → invSubByte (subByte a) ≡ a
 inv-sub-sub a h =
-    sym (inv-sbox-rule (subByte a) (sub-below a h)) ∙ ap (λ (x : ℕ). getD inv-sbox x 0) (sym (sbox-rule a h))
+    sym (inv-sbox-rule .at (subByte a) (sub-below a h)) ∙ ap (λ (x : ℕ). getD inv-sbox x 0) (sym (sbox-rule .at a h))
     ∙ inv-sbox-sbox a h
 
 pub sub-inv-sub : (a : ℕ) → a < 256 → subByte (invSubByte a) ≡ a
 sub-inv-sub a h =
-    sym (sbox-rule (invSubByte a) (inv-sub-below a h)) ∙ ap (λ (x : ℕ). getD sbox x 0) (sym (inv-sbox-rule a h))
+    sym (sbox-rule .at (invSubByte a) (inv-sub-below a h)) ∙ ap (λ (x : ℕ). getD sbox x 0) (sym (inv-sbox-rule .at a h))
     ∙ sbox-inv-sbox a h

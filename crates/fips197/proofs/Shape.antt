@@ -1,10 +1,11 @@
 -- Words of four bytes and states of four words: every step of the cipher keeps them so.
-use mathlib.Core.List.{List, [], _∷_}
-use mathlib.Core.Path.{_≡_, sym, ap, _∙_, subst⁻¹}
+use mathlib.Core.List.{List, [], _∷_, _++_}
+use mathlib.Core.Path.{_≡_, refl, sym, ap, _∙_, subst⁻¹}
 use Prim.Native.Nat.{ℕ, zero, suc, _<_}
 use native.Mathlib.Numerals.{add-one}
 use native.Mathlib.Omega.{arith}
-use lib.ListN.{getD, length}
+use lib.ListN.{getD}
+use Rattle.octets.specs.Bytes.{Bytes}
 use Rattle.octets.specs.Xor.{_⊕_}
 use Rattle.octets.proofs.Xor.{⊕-below}
 use Rattle.fips197.specs.Field.{_·_}
@@ -97,27 +98,44 @@ next-state (state a b c d) h =
     let y = add-word c x in
     state w x y (add-word d y)
 
--- Sixteen bytes, as a block and a key have.
-pub record Is16 (b : List ℕ) : Type 0 where
-  pub size : length b ≡ 16
-  pub small : (i : ℕ) → getD b i 0 < 256
-
-pub load-state : {b : List ℕ} → Is16 b → IsState (load b)
+pub load-state : {b : List ℕ} → Bytes 16 b → IsState (load b)
 load-state g =
     let h = g .small in
     state (word (h 0) (h 1) (h 2) (h 3)) (word (h 4) (h 5) (h 6) (h 7)) (word (h 8) (h 9) (h 10) (h 11))
     (word (h 12) (h 13) (h 14) (h 15))
 
-round-key-state : {key : List ℕ} → Is16 key → (n : ℕ) → IsState (roundKey (load key) n)
+round-key-state : {key : List ℕ} → Bytes 16 key → (n : ℕ) → IsState (roundKey (load key) n)
 round-key-state {key} g zero = subst⁻¹ IsState (roundKey-zero key) (load-state g)
 round-key-state {key} g (suc n) =
     subst⁻¹ IsState (ap (roundKey (load key)) (sym (add-one n)) ∙ roundKey-next (load key) n)
     (next-state (round-key-state g n) (rcon-below n))
 
-pub schedule-states : {key : List ℕ} → Is16 key → (n : ℕ) → n < 11 → IsState (getD (keyExpansion key) n [])
+pub schedule-states : {key : List ℕ} → Bytes 16 key → (n : ℕ) → n < 11 → IsState (getD (keyExpansion key) n [])
 unfolding keyExpansion
 schedule-states {key} g n h = subst⁻¹ IsState (getD-listOf 11 (roundKey (load key)) [] n h) (round-key-state g n)
 
--- A block through the state and back.
-pub store-load : {b : List ℕ} → Is16 b → store (load b) ≡ b
+-- A block through the state and back, and a state through a block.
+pub store-load : {b : List ℕ} → Bytes 16 b → store (load b) ≡ b
 store-load {b} g = ap (λ (n : ℕ). listOf n (λ i. getD b i 0)) (sym (g .size)) ∙ listOf-getD 0 b
+
+pub load-store : {s : State} → IsState s → load (store s) ≡ s
+load-store (state (word a b c d) (word e f g h) (word i j k l) (word m n o p)) = refl
+
+data Small : List ℕ → Type 0 where
+  none : Small []
+  more : {a : ℕ} {b : List ℕ} → a < 256 → Small b → Small (a ∷ b)
+
+small-at : {b : List ℕ} → Small b → (i : ℕ) → getD b i 0 < 256
+small-at none i = omega arith
+small-at (more h t) zero = h
+small-at (more h t) (suc i) = small-at t i
+
+before : {w b : List ℕ} → IsWord w → Small b → Small (w ++ b)
+before (word a b c d) t = more a (more b (more c (more d t)))
+
+pub store-bytes : {s : State} → IsState s → Bytes 16 (store s)
+store-bytes (state (word a b c d) (word e f g h) (word i j k l) (word m n o p)) =
+    record {
+      size = refl;
+      small = small-at (before (word a b c d) (before (word e f g h) (before (word i j k l) (before (word m n o p) none))));
+    }

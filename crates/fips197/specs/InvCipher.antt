@@ -21,8 +21,11 @@ invSubByte b =
     let a = ofBits (invAffineBit b) in
     inverse a
 
+abbrev pub invSubWord : Word → Word
+invSubWord w = four (λ r. invSubByte (byte w r))
+
 abbrev pub invSubBytes : State → State
-invSubBytes s = four (λ c. four (λ r. invSubByte (cell s r c)))
+invSubBytes s = four (λ c. invSubWord (column s c))
 
 -- 5.3.3.
 abbrev pub invMixColumns : State → State
