@@ -1,1 +1,167 @@
-// Bytes and byte strings: laws that every layer above shares.
+// Byte strings: comparing, copying, and big-endian numbers at a place.
+ghost use mathlib.Core.Path.{_≡_};
+ghost use Prim.Native.Nat.{_≤_, _+_};
+ghost use lib.ListN.{length, getD};
+ghost use Rattle.octets.specs.Bytes.{number as numberAt, digits, placed, filled};
+ghost use Rattle.octets.specs.Bytes.{same as sameBytes};
+
+// Whether two byte strings hold the same bytes.
+pub fn same(a: &[u8], b: &[u8]) -> bool
+    ensures { λ r. ⌜ r ≡ sameBytes (now (a .entry)) (now (b .entry)) ⌝ }
+{
+    if a.len() != b.len() {
+        return false;
+    }
+    let mut i = 0;
+    while i < a.len() {
+        if a[i] != b[i] {
+            return false;
+        }
+        i += 1;
+    }
+    true
+}
+
+// The first 16 bytes, filled out with zeros.
+pub fn sixteen(s: &[u8]) -> [u8; 16]
+    ensures { λ r. ⌜ r ≡ filled 16 (now (s .entry)) ⌝ }
+{
+    let mut out = [0u8; 16];
+    let mut i = 0;
+    while i < 16 {
+        if s.len() <= i {
+            return out;
+        }
+        out[i] = s[i];
+        i += 1;
+    }
+    out
+}
+
+// Copies a byte string into another from a place on, or nothing where it does not fit.
+pub fn copy(from: &[u8], out: &mut [u8], at: usize)
+    ensures { λ r. ⌜ now (out .exit) ≡ placed (now (out .entry)) at (now (from .entry)) ⌝ }
+{
+    if out.len() < from.len() {
+        return;
+    }
+    if out.len() - from.len() < at {
+        return;
+    }
+    let mut i = 0;
+    while i < from.len() {
+        out[at + i] = from[i];
+        i += 1;
+    }
+}
+
+// The number that `width` bytes from a place on hold, the first the highest.
+fn number(width: usize, s: &[u8], at: usize) -> u64
+    requires { ⌜ width ≤ 8 ⌝ }
+    ensures { λ r. ⌜ r ≡ numberAt width (now (s .entry)) at ⌝ }
+{
+    if s.len() <= at {
+        return 0;
+    }
+    let mut n: u64 = 0;
+    let mut i = 0;
+    while i < width {
+        n = n * 256 + wide(byte_at(s, at + i));
+        i += 1;
+    }
+    n
+}
+
+fn wide(x: u8) -> u64
+    ensures { λ r. ⌜ r ≡ x ⌝ }
+{
+    x as u64
+}
+
+// A byte of a string, zero past its end.
+fn byte_at(s: &[u8], at: usize) -> u8
+    ensures { λ r. ⌜ r ≡ getD (now (s .entry)) at 0 ⌝ }
+{
+    if at < s.len() { s[at] } else { 0 }
+}
+
+// The big-endian number at a place, bytes past the end counted as zero.
+pub fn be16(s: &[u8], at: usize) -> u16
+    ensures { λ r. ⌜ r ≡ numberAt 2 (now (s .entry)) at ⌝ }
+{
+    number(2, s, at) as u16
+}
+
+pub fn be32(s: &[u8], at: usize) -> u32
+    ensures { λ r. ⌜ r ≡ numberAt 4 (now (s .entry)) at ⌝ }
+{
+    number(4, s, at) as u32
+}
+
+pub fn be64(s: &[u8], at: usize) -> u64
+    ensures { λ r. ⌜ r ≡ numberAt 8 (now (s .entry)) at ⌝ }
+{
+    number(8, s, at)
+}
+
+// Writes a number big-endian from a place on, or nothing where it does not fit.
+pub fn put16(n: u16, out: &mut [u8], at: usize)
+    ensures { λ r. ⌜ now (out .exit) ≡ placed (now (out .entry)) at (digits 2 n) ⌝ }
+{
+    copy(&bytes16(n), out, at);
+}
+
+pub fn put32(n: u32, out: &mut [u8], at: usize)
+    ensures { λ r. ⌜ now (out .exit) ≡ placed (now (out .entry)) at (digits 4 n) ⌝ }
+{
+    copy(&bytes32(n), out, at);
+}
+
+pub fn put64(n: u64, out: &mut [u8], at: usize)
+    ensures { λ r. ⌜ now (out .exit) ≡ placed (now (out .entry)) at (digits 8 n) ⌝ }
+{
+    copy(&bytes64(n), out, at);
+}
+
+// A number's bytes, the highest first.
+pub fn bytes16(n: u16) -> [u8; 2]
+    ensures { λ r. ⌜ r ≡ digits 2 n ⌝ }
+{
+    [(n / 256 % 256) as u8, (n % 256) as u8]
+}
+
+pub fn bytes32(n: u32) -> [u8; 4]
+    ensures { λ r. ⌜ r ≡ digits 4 n ⌝ }
+{
+    let a = n / 256;
+    let b = a / 256;
+    let c = b / 256;
+    [
+        (c % 256) as u8,
+        (b % 256) as u8,
+        (a % 256) as u8,
+        (n % 256) as u8,
+    ]
+}
+
+pub fn bytes64(n: u64) -> [u8; 8]
+    ensures { λ r. ⌜ r ≡ digits 8 n ⌝ }
+{
+    let a = n / 256;
+    let b = a / 256;
+    let c = b / 256;
+    let d = c / 256;
+    let e = d / 256;
+    let f = e / 256;
+    let g = f / 256;
+    [
+        (g % 256) as u8,
+        (f % 256) as u8,
+        (e % 256) as u8,
+        (d % 256) as u8,
+        (c % 256) as u8,
+        (b % 256) as u8,
+        (a % 256) as u8,
+        (n % 256) as u8,
+    ]
+}

@@ -1,0 +1,43 @@
+-- A list that a loop fills from the front: xs as it was, ys as it is, p what has been stored, i how many.
+use mathlib.Core.List.{List, [], _∷_, _++_, append-assoc, append-nil}
+use mathlib.Core.Path.{_≡_, refl, ap, _∙_}
+use Prim.Native.Nat.{ℕ, suc, _+_, _≤_, _<_}
+use native.Mathlib.Numerals.{add-one}
+use native.Mathlib.Omega.{arith}
+use lib.ListN.{length, getD, take, drop, set, length-append, length-drop, drop-of-length-le}
+use lib.Seq.{drop-cons, set-at, getD-at, take-suc}
+
+pub record Filled (xs ys p : List ℕ) (i : ℕ) : Type 0 where
+  pub here : ys ≡ p ++ drop i xs
+  pub size : length p ≡ i
+  pub fits : i ≤ length xs
+
+pub fill-none : (xs p : List ℕ) → p ≡ [] → Filled xs xs p 0
+fill-none xs p e = rw e (record { here = refl; size = refl; fits = omega arith })
+
+module _ {xs ys p : List ℕ} {i : ℕ} (f : Filled xs ys p i) where
+  pub fill-length : length ys ≡ length xs
+  fill-length = rw (f .here) (simp (length-append, length-drop) (omega (arith, f .size, f .fits)))
+
+  pub fill-all : length xs ≤ i → ys ≡ p
+  fill-all l = f .here ∙ simp (drop-of-length-le xs l, append-nil)
+
+  pub fill-at : i < length xs → getD ys i 0 ≡ getD xs i 0
+  fill-at l =
+      ap (λ (l : List ℕ). getD l i 0) (f .here)
+      ∙ rw (drop-cons xs i 0 l) (getD-at p (getD xs i 0) (drop (suc i) xs) 0 i (f .size))
+
+  pub fill-next : i < length xs → (v : ℕ) (q : List ℕ) → q ≡ p ++ (v ∷ []) → Filled xs (set ys i v) q (i + 1)
+  fill-next l v q e =
+      rw e
+      (record {
+        here =
+            ap (λ (l : List ℕ). set l i v) (f .here)
+            ∙ rw (drop-cons xs i 0 l, add-one, append-assoc) (set-at p (getD xs i 0) (drop (suc i) xs) v i (f .size));
+        size = simp length-append (omega (arith, f .size));
+        fits = omega arith;
+      })
+
+-- one element more
+pub take-next : (xs : List ℕ) (i : ℕ) → i < length xs → take (i + 1) xs ≡ take i xs ++ (getD xs i 0 ∷ [])
+take-next xs i l = rw add-one (take-suc xs i 0 l)
