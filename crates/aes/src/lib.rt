@@ -51,6 +51,12 @@ impl Block {
         Block(bytes)
     }
 
+    pub fn bytes(self) -> [u8; 16]
+        ensures { λ r. ⌜ r ≡ self .0 ⌝ }
+    {
+        self.0
+    }
+
     pub fn encipher(self, keys: RoundKeys) -> Block
         ensures { λ r. ⌜ r .0 ≡ block.encipher keys (self .0) ⌝ }
     {

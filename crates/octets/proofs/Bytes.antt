@@ -1,13 +1,13 @@
 -- Laws of the definitions on byte strings.
 use mathlib.Core.Bool.{Bool, true, false, _&&_, false≢true}
-use mathlib.Core.List.{List, [], _∷_, _++_, append-assoc}
+use mathlib.Core.List.{List, [], _∷_, _++_, append-assoc, append-nil}
 use mathlib.Core.Path.{_≡_, refl, sym, ap, _∙_}
 use Prim.Native.Nat.{ℕ, zero, suc, _+_, _-_, _*_, _^_, _≤_, _<_}
 use native.Mathlib.Nat.{pow-suc, pow-le-pow-right}
 use native.Mathlib.Numerals.{add-one}
 use native.Mathlib.Omega.{arith}
 use lib.Dec.{eqb, lit<}
-use lib.ListN.{length, getD, take, drop, replicate, List·getD-eq-default}
+use lib.ListN.{length, getD, take, drop, replicate, drop-of-length-le, List·getD-eq-default}
 use lib.Seq.{paste, take-length, take-all, take-append-le, take-append-add}
 use borrow.Author.Tests.{eq-eqb, eqb-true, le-leb, lt-leb}
 use Rattle.octets.specs.Bytes.{same, number, placed, filled}
@@ -77,6 +77,12 @@ placed-fits s at b h = rw (le-leb (at + length b) (length s) h)
 pub placed-not : (s : List ℕ) (at : ℕ) (b : List ℕ) → length s < at + length b → placed s at b ≡ s
 unfolding placed
 placed-not s at b h = rw (lt-leb (at + length b) (length s) h)
+
+-- a string placed over the whole of another
+pub placed-whole : (s b : List ℕ) → length b ≡ length s → placed s 0 b ≡ b
+placed-whole s b e =
+    placed-fits s 0 b (omega arith)
+    ∙ ap (λ (l : List ℕ). b ++ l) (drop-of-length-le s {i = 0 + length b} (omega arith)) ∙ append-nil b
 
 -- what a loop that copies leaves
 pub paste-placed : (s : List ℕ) (at : ℕ) (b : List ℕ) → at + length b ≤ length s → paste s at b (length b) ≡ placed s at b

@@ -1,11 +1,12 @@
 -- A list that a loop fills from the front: xs as it was, ys as it is, p what has been stored, i how many.
 use mathlib.Core.List.{List, [], _∷_, _++_, append-assoc, append-nil}
-use mathlib.Core.Path.{_≡_, refl, ap, _∙_}
-use Prim.Native.Nat.{ℕ, suc, _+_, _≤_, _<_}
+use mathlib.Core.Path.{_≡_, refl, sym, ap, _∙_}
+use Prim.Native.Nat.{ℕ, suc, _+_, _-_, _≤_, _<_}
 use native.Mathlib.Numerals.{add-one}
 use native.Mathlib.Omega.{arith}
 use lib.ListN.{length, getD, take, drop, set, length-append, length-drop, drop-of-length-le}
-use lib.Seq.{drop-cons, set-at, getD-at, take-suc}
+use lib.Seq.{drop-cons, drop-drop, set-at, getD-at, take-suc, take-at, drop-at}
+use borrow.Rule.Slice.PartMut.{putMid}
 
 pub record Filled (xs ys p : List ℕ) (i : ℕ) : Type 0 where
   pub here : ys ≡ p ++ drop i xs
@@ -36,6 +37,24 @@ module _ {xs ys p : List ℕ} {i : ℕ} (f : Filled xs ys p i) where
             ∙ rw (drop-cons xs i 0 l, add-one, append-assoc) (set-at p (getD xs i 0) (drop (suc i) xs) v i (f .size));
         size = simp length-append (omega (arith, f .size));
         fits = omega arith;
+      })
+
+  pub fill-drop : drop i ys ≡ drop i xs
+  fill-drop = ap (drop i) (f .here) ∙ drop-at p (drop i xs) i (f .size)
+
+  pub fill-take : take i ys ≡ p
+  fill-take = ap (take i) (f .here) ∙ take-at p (drop i xs) i (f .size)
+
+  -- a part from i to e is lent and comes back as z
+  pub fill-part : (e : ℕ) → i ≤ e → e ≤ length xs → (z q : List ℕ) → length z ≡ e - i → q ≡ p ++ z
+      → Filled xs (putMid i (e - i) ys z) q e
+  fill-part e l h z q n g =
+      let a : i + (e - i) ≡ e = omega arith in
+      rw g
+      (record {
+        here = rw (fill-take, fill-drop, drop-drop (e - i) i xs, a) (sym (append-assoc p z (drop e xs)));
+        size = simp length-append (omega (arith, f .size));
+        fits = h;
       })
 
 -- one element more
