@@ -1,12 +1,12 @@
--- Multiplication in the field is additive and keeps bytes, and the multiples of the two matrices by xtime.
+-- Multiplication in the field is additive and keeps bytes; the rows of the two matrices by multiplications by x.
 use mathlib.Core.Path.{_≡_, refl, sym, ap, ap₂, _∙_}
 use Prim.Native.Nat.{ℕ, zero, suc, _*_, _/_, _%_, _<_}
 use native.Mathlib.Nat.{mod-lt}
 use lib.Dec.{lit<}
-use lib.Bits.{bitXor}
 use Rattle.octets.specs.Xor.{_⊕_}
-use Rattle.octets.proofs.Xor.{Bit, b0, b1, low, ⊕-zero, zero-⊕, ⊕-swap, ⊕-below, ⊕-double, ⊕-mod, ⊕-shr}
+use Rattle.octets.proofs.Xor.{Bit, b0, b1, low, ⊕-assoc, ⊕-comm, ⊕-left-comm, ⊕-zero, zero-⊕, ⊕-swap, ⊕-below, ⊕-double, ⊕-mod, ⊕-shr}
 use Rattle.fips197.specs.Field.{xtime, addIf, mulBits, _·_}
+use Rattle.fips197.specs.Cipher.{row}
 
 reduced-add : {x y : ℕ} → Bit x → Bit y → (x ⊕ y) * 0x1b ≡ (x * 0x1b) ⊕ (y * 0x1b)
 unfolding _⊕_
@@ -60,30 +60,40 @@ pub ·-below : (c a : ℕ) → a < 256 → c · a < 256
 unfolding _·_
 ·-below = mulBits-below 8
 
-pub by1 : (a : ℕ) → 1 · a ≡ a
+by1 : (a : ℕ) → 1 · a ≡ a
 unfolding _·_
 by1 a = ⊕-zero a
 
-pub by2 : (a : ℕ) → 2 · a ≡ xtime a
+by2 : (a : ℕ) → 2 · a ≡ xtime a
 unfolding _·_
 by2 a = ⊕-zero (xtime a)
 
-pub by3 : (a : ℕ) → 3 · a ≡ a ⊕ xtime a
+by3 : (a : ℕ) → 3 · a ≡ a ⊕ xtime a
 unfolding _·_
 by3 a = simp ⊕-zero
 
-pub by9 : (a : ℕ) → 9 · a ≡ a ⊕ xtime (xtime (xtime a))
+by9 : (a : ℕ) → 9 · a ≡ a ⊕ xtime (xtime (xtime a))
 unfolding _·_
 by9 a = simp ⊕-zero
 
-pub by11 : (a : ℕ) → 11 · a ≡ a ⊕ xtime a ⊕ xtime (xtime (xtime a))
+by11 : (a : ℕ) → 11 · a ≡ a ⊕ xtime a ⊕ xtime (xtime (xtime a))
 unfolding _·_
 by11 a = simp ⊕-zero
 
-pub by13 : (a : ℕ) → 13 · a ≡ a ⊕ xtime (xtime a) ⊕ xtime (xtime (xtime a))
+by13 : (a : ℕ) → 13 · a ≡ a ⊕ xtime (xtime a) ⊕ xtime (xtime (xtime a))
 unfolding _·_
 by13 a = simp ⊕-zero
 
-pub by14 : (a : ℕ) → 14 · a ≡ xtime a ⊕ xtime (xtime a) ⊕ xtime (xtime (xtime a))
+by14 : (a : ℕ) → 14 · a ≡ xtime a ⊕ xtime (xtime a) ⊕ xtime (xtime (xtime a))
 unfolding _·_
 by14 a = simp ⊕-zero
+
+-- the rows of the two matrices, with one and three multiplications by x
+pub mix-row : (a b c d : ℕ) → xtime (a ⊕ b) ⊕ (b ⊕ (c ⊕ d)) ≡ row 2 3 1 1 a b c d
+unfolding row
+mix-row a b c d = simp (by1, by2, by3, xtime-add, ⊕-assoc, ⊕-comm, ⊕-left-comm)
+
+pub inv-mix-row : (a b c d : ℕ)
+    → xtime (xtime (xtime ((a ⊕ b) ⊕ (c ⊕ d)) ⊕ (a ⊕ c)) ⊕ (a ⊕ b)) ⊕ (b ⊕ (c ⊕ d)) ≡ row 14 11 13 9 a b c d
+unfolding row
+inv-mix-row a b c d = simp (by9, by11, by13, by14, xtime-add, ⊕-assoc, ⊕-comm, ⊕-left-comm)

@@ -1,0 +1,207 @@
+// The published vectors of FIPS 197 and SP 800-38A, and chained blocks under changing keys, a line each.
+use aes::Block;
+use aes::Key;
+use aes::RoundKeys;
+use libc::STDOUT_FILENO;
+
+fn print(text: &[u8]) {
+    io::write_all(STDOUT_FILENO, text);
+}
+
+fn print_number(n: usize) {
+    io::print_decimal(STDOUT_FILENO, n as u64);
+}
+
+fn print_bytes(b: [u8; 16]) {
+    io::print_hex(STDOUT_FILENO, octets::be64(&b, 0), 16);
+    io::print_hex(STDOUT_FILENO, octets::be64(&b, 8), 16);
+}
+
+fn print_word(w: [u8; 4]) {
+    io::print_hex(STDOUT_FILENO, octets::be32(&w, 0) as u64, 8);
+}
+
+fn key_of(bytes: &[u8]) -> RoundKeys {
+    Key::new(octets::sixteen(bytes)).round_keys()
+}
+
+fn block_of(bytes: &[u8]) -> Block {
+    Block::new(octets::sixteen(bytes))
+}
+
+// FIPS 197, appendix A.1: the 44 words of the key schedule.
+fn key_expansion(keys: RoundKeys) {
+    for i in 0..44usize {
+        let k = keys[i / 4];
+        let w = k[i % 4];
+        word_line(i, w);
+    }
+}
+
+fn word_line(i: usize, w: [u8; 4]) {
+    print(b"FIPS 197 A.1 w[");
+    print_number(i);
+    print(b"] ");
+    print_word(w);
+    print(b"\n");
+}
+
+fn block_line(text: &[u8], b: Block) {
+    print(text);
+    print_bytes(b.bytes());
+    print(b"\n");
+}
+
+// SP 800-38A, F.1: four blocks, and their lines.
+fn codebook(text: &[u8], keys: RoundKeys, inverse: bool, blocks: &mut [u8]) {
+    ecb::transform(keys, inverse, blocks);
+    for i in 0..4usize {
+        numbered_line(text, i, blocks);
+    }
+}
+
+// Block i, counted from 1 in the line.
+fn numbered_line(text: &[u8], i: usize, blocks: &[u8]) {
+    if i < blocks.len() / 16 {
+        let at = i * 16;
+        print(text);
+        print_number(i + 1);
+        print(b" ");
+        print_bytes(octets::sixteen(&blocks[at..]));
+        print(b"\n");
+    }
+}
+
+// A key and a block of the chain.
+struct Chain {
+    key: [u8; 16],
+    block: [u8; 16],
+}
+
+fn xor(a: [u8; 16], b: [u8; 16]) -> [u8; 16] {
+    let mut r = a;
+    for i in 0..16usize {
+        r[i] = a[i] ^ b[i];
+    }
+    r
+}
+
+fn hundred(keys: RoundKeys, inverse: bool, first: Block) -> Block {
+    let mut b = first;
+    for i in 0..100usize {
+        let next = if inverse {
+            b.decipher(keys)
+        } else {
+            b.encipher(keys)
+        };
+        b = next;
+    }
+    b
+}
+
+// A hundred blocks under one key, and the next key.
+fn forward(c: Chain) -> Chain {
+    let key = c.key;
+    let first = c.block;
+    let block = hundred(Key::new(key).round_keys(), false, Block::new(first)).bytes();
+    let next = xor(key, block);
+    Chain {
+        key: next,
+        block: block,
+    }
+}
+
+// What forward did, undone.
+fn back(c: Chain) -> Chain {
+    let last = c.key;
+    let block = c.block;
+    let key = xor(last, block);
+    let first = hundred(Key::new(key).round_keys(), true, Block::new(block)).bytes();
+    Chain {
+        key: key,
+        block: first,
+    }
+}
+
+// Where the chain stands after each 100 keys.
+fn chain_line(text: &[u8], keys: usize, c: Chain) {
+    if keys % 100 == 0 {
+        let key = c.key;
+        let block = c.block;
+        print(b"chained ");
+        print_number(keys);
+        print(b"00");
+        print(text);
+        print_bytes(key);
+        print(b" ");
+        print_bytes(block);
+        print(b"\n");
+    }
+}
+
+fn forward_all(text: &[u8], first: Chain) -> Chain {
+    let mut c = first;
+    for i in 0..1000usize {
+        let next = forward(c);
+        c = next;
+        chain_line(text, i + 1, c);
+    }
+    c
+}
+
+fn back_all(text: &[u8], last: Chain) -> Chain {
+    let mut c = last;
+    for i in 0..1000usize {
+        let next = back(c);
+        c = next;
+        chain_line(text, i + 1, c);
+    }
+    c
+}
+
+fn main() {
+    let keys = key_of(b"\x2b\x7e\x15\x16\x28\xae\xd2\xa6\xab\xf7\x15\x88\x09\xcf\x4f\x3c");
+    key_expansion(keys);
+    block_line(
+        b"FIPS 197 B enciphered ",
+        block_of(b"\x32\x43\xf6\xa8\x88\x5a\x30\x8d\x31\x31\x98\xa2\xe0\x37\x07\x34").encipher(
+            keys,
+        ),
+    );
+    block_line(
+        b"FIPS 197 B deciphered ",
+        block_of(b"\x39\x25\x84\x1d\x02\xdc\x09\xfb\xdc\x11\x85\x97\x19\x6a\x0b\x32").decipher(
+            keys,
+        ),
+    );
+    let counted = key_of(b"\x00\x01\x02\x03\x04\x05\x06\x07\x08\x09\x0a\x0b\x0c\x0d\x0e\x0f");
+    block_line(
+        b"FIPS 197 C.1 enciphered ",
+        block_of(b"\x00\x11\x22\x33\x44\x55\x66\x77\x88\x99\xaa\xbb\xcc\xdd\xee\xff").encipher(
+            counted,
+        ),
+    );
+    block_line(
+        b"FIPS 197 C.1 deciphered ",
+        block_of(b"\x69\xc4\xe0\xd8\x6a\x7b\x04\x30\xd8\xcd\xb7\x80\x70\xb4\xc5\x5a").decipher(
+            counted,
+        ),
+    );
+    let mut plain =
+        *b"\x6b\xc1\xbe\xe2\x2e\x40\x9f\x96\xe9\x3d\x7e\x11\x73\x93\x17\x2a\xae\x2d\x8a\x57\x1e\x03\xac\x9c\x9e\xb7\x6f\xac\x45\xaf\x8e\x51\x30\xc8\x1c\x46\xa3\x5c\xe4\x11\xe5\xfb\xc1\x19\x1a\x0a\x52\xef\xf6\x9f\x24\x45\xdf\x4f\x9b\x17\xad\x2b\x41\x7b\xe6\x6c\x37\x10";
+    codebook(b"SP 800-38A F.1.1 block ", keys, false, &mut plain);
+    let mut cipher =
+        *b"\x3a\xd7\x7b\xb4\x0d\x7a\x36\x60\xa8\x9e\xca\xf3\x24\x66\xef\x97\xf5\xd3\xd5\x85\x03\xb9\x69\x9d\xe7\x85\x89\x5a\x96\xfd\xba\xaf\x43\xb1\xcd\x7f\x59\x8e\xce\x23\x88\x1b\x00\xe3\xed\x03\x06\x88\x7b\x0c\x78\x5e\x27\xe8\xad\x3f\x82\x23\x20\x71\x04\x72\x5d\xd4";
+    codebook(b"SP 800-38A F.1.2 block ", keys, true, &mut cipher);
+    let first = octets::sixteen(
+        b"\x00\x01\x02\x03\x04\x05\x06\x07\x08\x09\x0a\x0b\x0c\x0d\x0e\x0f",
+    );
+    let last = forward_all(
+        b" enciphered ",
+        Chain {
+            key: first,
+            block: [0; 16],
+        },
+    );
+    back_all(b" deciphered ", last);
+}
