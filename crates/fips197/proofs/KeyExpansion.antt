@@ -8,11 +8,12 @@ use native.Mathlib.Omega.{arith}
 use lib.ListN.{getD, set, length, length-set, replicate}
 use lib.Seq.{getD-set-same, getD-set-other, ext-getD}
 use borrow.Author.Count.{below-more}
+use Rattle.octets.proofs.Bytes.{getD-listOf}
 use Rattle.fips197.specs.Field.{xtime}
-use Rattle.fips197.specs.State.{Word, State, column, load, listOf}
+use Rattle.fips197.specs.State.{Word, State, column, load}
 use Rattle.fips197.specs.Cipher.{subWord, addWord}
 use Rattle.fips197.specs.KeyExpansion.{rotWord, rcon, temp, word, roundKey, keyExpansion}
-use Rattle.fips197.proofs.Lists.{getD-listOf, same}
+use Rattle.fips197.proofs.Lists.{same}
 
 -- the first word of the round key after k, whose round constant is rc
 abbrev pub firstWord : State → ℕ → Word

@@ -5,17 +5,18 @@ use Prim.Native.Nat.{ℕ, zero, suc, _<_}
 use native.Mathlib.Numerals.{add-one}
 use native.Mathlib.Omega.{arith}
 use lib.ListN.{getD}
-use Rattle.octets.specs.Bytes.{Bytes}
+use Rattle.octets.specs.Bytes.{Bytes, listOf}
+use Rattle.octets.proofs.Bytes.{getD-listOf, listOf-getD}
 use Rattle.octets.specs.Xor.{_⊕_}
 use Rattle.octets.proofs.Xor.{⊕-below}
 use Rattle.fips197.specs.Field.{_·_}
-use Rattle.fips197.specs.State.{Word, State, byte, column, listOf, four, load, store}
+use Rattle.fips197.specs.State.{Word, State, byte, column, four, load, store}
 use Rattle.fips197.specs.Cipher.{subByte, subWord, subBytes, shiftRows, row, matrix, mixColumns, addWord, addRoundKey}
 use Rattle.fips197.specs.KeyExpansion.{rotWord, rcon, roundKey, keyExpansion}
 use Rattle.fips197.specs.InvCipher.{invSubByte, invSubBytes, invShiftRows, invMixColumns}
 use Rattle.fips197.proofs.Field.{xtime-below, ·-below}
 use Rattle.fips197.proofs.SBox.{sub-below, inv-sub-below}
-use Rattle.fips197.proofs.Lists.{getD-listOf, listOf-getD, same}
+use Rattle.fips197.proofs.Lists.{same}
 use Rattle.fips197.proofs.KeyExpansion.{nextKey, roundKey-zero, roundKey-next}
 
 pub data IsWord : Word → Type 0 where

@@ -3,8 +3,9 @@ use mathlib.Core.Bool.{Bool, true, false}
 use mathlib.Core.List.{List, [], _∷_}
 use Prim.Native.Nat.{ℕ, zero, suc, _+_, _-_, _*_, _/_, _%_}
 use lib.Dec.{eqb}
+use Rattle.octets.specs.Bytes.{listOf}
 use Rattle.fips197.specs.Field.{xtime}
-use Rattle.fips197.specs.State.{Word, State, byte, column, listOf, four, load}
+use Rattle.fips197.specs.State.{Word, State, byte, column, four, load}
 use Rattle.fips197.specs.Cipher.{subWord, addWord}
 
 abbrev pub rotWord : Word → Word

@@ -1,7 +1,8 @@
 -- FIPS 197, section 3: bytes, words of four bytes, and the state, whose four columns are words.
-use mathlib.Core.List.{List, [], _∷_}
-use Prim.Native.Nat.{ℕ, zero, suc, _+_, _*_, _/_, _%_}
+use mathlib.Core.List.{List, []}
+use Prim.Native.Nat.{ℕ, _+_, _*_, _/_, _%_}
 use lib.ListN.{getD}
+use Rattle.octets.specs.Bytes.{listOf}
 
 abbrev pub Word : Type 0
 Word = List ℕ
@@ -20,11 +21,6 @@ column s c = getD s c []
 -- The byte s[r, c].
 abbrev pub cell : State → ℕ → ℕ → ℕ
 cell s r c = byte (column s c) r
-
--- f 0, f 1, .., n of them.
-abbrev pub listOf : {A : Type 0} → ℕ → (ℕ → A) → List A
-listOf zero f = []
-listOf (suc n) f = f 0 ∷ listOf n (λ i. f (suc i))
 
 abbrev pub four : {A : Type 0} → (ℕ → A) → List A
 four f = listOf 4 f

@@ -10,7 +10,7 @@ use lib.Dec.{eqb, lit<}
 use lib.ListN.{length, getD, take, drop, replicate, drop-of-length-le, List·getD-eq-default}
 use lib.Seq.{paste, take-length, take-all, take-append-le, take-append-add}
 use borrow.Author.Tests.{eq-eqb, eqb-true, le-leb, lt-leb}
-use Rattle.octets.specs.Bytes.{same, number, placed, filled}
+use Rattle.octets.specs.Bytes.{listOf, same, number, placed, filled}
 
 -- comparing
 pub same-true : (a b : List ℕ) → a ≡ b → same a b ≡ true
@@ -123,3 +123,23 @@ filled-long n s h = take-append-le n s (zeros n) h
 
 pub filled-all : (n : ℕ) (s : List ℕ) → length s ≡ n → filled n s ≡ s
 filled-all n s e = filled-long n s (omega arith) ∙ take-all n s (omega arith)
+
+-- the elements of such a string one by one
+pub filled-listOf : (n : ℕ) (s : List ℕ) → filled n s ≡ listOf n (λ i. getD s i 0)
+unfolding filled
+filled-listOf n s = go n n s (omega arith)
+  where
+    go : (n m : ℕ) (s : List ℕ) → n ≤ m → take n (s ++ zeros m) ≡ listOf n (λ i. getD s i 0)
+    go zero m s h = refl
+    go (suc n) zero s h = absurd (omega arith)
+    go (suc n) (suc m) [] h = ap (λ (l : List ℕ). 0 ∷ l) (go n m [] (omega arith))
+    go (suc n) (suc m) (x ∷ xs) h = ap (λ (l : List ℕ). x ∷ l) (go n (suc m) xs (omega arith))
+
+pub getD-listOf : {A : Type 0} (m : ℕ) (f : ℕ → A) (d : A) (n : ℕ) → n < m → getD (listOf m f) n d ≡ f n
+getD-listOf zero f d n h = absurd (omega arith)
+getD-listOf (suc m) f d zero h = refl
+getD-listOf (suc m) f d (suc n) h = getD-listOf m (λ i. f (suc i)) d n (omega arith)
+
+pub listOf-getD : {A : Type 0} (d : A) (xs : List A) → listOf (length xs) (λ i. getD xs i d) ≡ xs
+listOf-getD d [] = refl
+listOf-getD {A} d (x ∷ xs) = ap {B = List A} (λ r. x ∷ r) (listOf-getD d xs)

@@ -1,7 +1,7 @@
 // Byte strings: comparing, copying, and big-endian numbers at a place.
 ghost use mathlib.Core.Path.{_≡_};
 ghost use Prim.Native.Nat.{_≤_, _+_};
-ghost use lib.ListN.{length, getD};
+ghost use lib.ListN.{length, getD, drop};
 ghost use Rattle.octets.specs.Bytes.{number as numberAt, digits, placed, filled};
 ghost use Rattle.octets.specs.Bytes.{same as sameBytes};
 
@@ -36,6 +36,23 @@ pub fn sixteen(s: &[u8]) -> [u8; 16]
         i += 1;
     }
     out
+}
+
+// The 16 bytes from a place on, filled out with zeros.
+pub fn sixteen_at(s: &[u8], at: usize) -> [u8; 16]
+    ensures { λ r. ⌜ r ≡ filled 16 (drop at (now (s .entry))) ⌝ }
+{
+    if s.len() <= at {
+        return [0; 16];
+    }
+    sixteen(&s[at..])
+}
+
+// The first four bytes, filled out with zeros.
+pub fn four(s: &[u8]) -> [u8; 4]
+    ensures { λ r. ⌜ r ≡ filled 4 (now (s .entry)) ⌝ }
+{
+    [byte_at(s, 0), byte_at(s, 1), byte_at(s, 2), byte_at(s, 3)]
 }
 
 // Copies a byte string into another from a place on, or nothing where it does not fit.
@@ -79,7 +96,7 @@ fn wide(x: u8) -> u64
 }
 
 // A byte of a string, zero past its end.
-fn byte_at(s: &[u8], at: usize) -> u8
+pub fn byte_at(s: &[u8], at: usize) -> u8
     ensures { λ r. ⌜ r ≡ getD (now (s .entry)) at 0 ⌝ }
 {
     if at < s.len() { s[at] } else { 0 }

@@ -7,8 +7,8 @@ use lib.ListN.{length, getD, take, drop, replicate}
 use Rattle.octets.specs.Answers.{Row, row, answer}
 use Rattle.octets.specs.Bytes.{same, number, digits, filled}
 use Rattle.track.specs.declared.Parameters.{Parameters}
-use Rattle.track.specs.declared.Read.{Read}
-use Rattle.track.specs.declared.Written.{Written}
+use Rattle.track.specs.declared.BoxRead.{BoxRead}
+use Rattle.track.specs.declared.BoxWritten.{BoxWritten}
 
 -- The scheme codes and the box type, in ASCII.
 abbrev pub cenc : List ℕ
@@ -36,17 +36,17 @@ known code = same code cenc || same code cbc1 || same code cens || same code cbc
 -- ---- What is allowed.
 
 -- A protected track with no IV of its own for each sample has a constant one.
-unfoldable pub hasConstant : ℕ → ℕ → Bool
+abbrev pub hasConstant : ℕ → ℕ → Bool
 hasConstant protected ivSize = eqb protected 1 && eqb ivSize 0
 
-unfoldable pub noPattern : ℕ → ℕ → Bool
+abbrev pub noPattern : ℕ → ℕ → Bool
 noPattern crypt skip = eqb crypt 0 && eqb skip 0
 
 -- Crypt 1 to 15, skip 0 to 15.
-unfoldable pub aPattern : ℕ → ℕ → Bool
+abbrev pub aPattern : ℕ → ℕ → Bool
 aPattern crypt skip = leb 1 crypt && leb crypt 15 && leb skip 15
 
-unfoldable pub eightOrSixteen : ℕ → Bool
+abbrev pub eightOrSixteen : ℕ → Bool
 eightOrSixteen ivSize = eqb ivSize 8 || eqb ivSize 16
 
 -- What a protected track of each scheme may have.
@@ -70,11 +70,11 @@ allowed p =
     && allowedFields (p .code) (p .protected) (p .«iv_size») (p .crypt) (p .skip)
 
 -- A version above 1, or a pattern in version 0.
-unfoldable pub badVersion : ℕ → ℕ → ℕ → Bool
+abbrev pub badVersion : ℕ → ℕ → ℕ → Bool
 badVersion version crypt skip = ltb 1 version || (eqb version 0 && not (noPattern crypt skip))
 
 -- The length that the fields call for.
-unfoldable pub boxLength : ℕ → ℕ → ℕ
+abbrev pub boxLength : ℕ → ℕ → ℕ
 boxLength protected ivSize = cond (hasConstant protected ivSize) 49 32
 
 -- ---- Reading.
@@ -126,7 +126,7 @@ unprotected =
       «constant_iv» = record { 0 = zeros };
     }
 
-unfoldable pub readBox : List ℕ → List ℕ → Read
+unfoldable pub readBox : List ℕ → List ℕ → BoxRead
 readBox code box =
     record {
       number = answer (readRows code box);
@@ -149,7 +149,7 @@ writeRows p room =
     row 1 (not (known (p .code))) ∷ row 3 (badVersion (p .version) (p .crypt) (p .skip)) ∷ row 4 (not (allowed p))
     ∷ row 17 (ltb room (boxLength (p .protected) (p .«iv_size»))) ∷ []
 
-unfoldable pub writeBox : Parameters → ℕ → Written
+unfoldable pub writeBox : Parameters → ℕ → BoxWritten
 writeBox p room =
     record {
       number = answer (writeRows p room);

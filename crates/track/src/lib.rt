@@ -1,10 +1,11 @@
 // The track encryption box `tenc`, read and written (document 01, "The track box").
 pub mod refusal;
 
+ghost use mathlib.Core.Bool.{true, cond, _&&_};
 ghost use mathlib.Core.Path.{_≡_};
-ghost use mathlib.Core.List.{List};
 ghost use Prim.Native.Nat.{_≤_};
-ghost use lib.ListN.{length};
+ghost use lib.ListN.{length, drop};
+ghost use Rattle.octets.specs.Bytes.{filled};
 ghost use Rattle.track.specs.Track as spec;
 
 // The KID of a track: the name of its key.
@@ -81,13 +82,231 @@ impl Parameters {
 }
 
 // What reading a box answers.
-pub struct Read {
+pub struct BoxRead {
     pub number: u8,
     pub parameters: Parameters,
 }
 
 // What writing a box answers: the number of bytes written, 0 if refused.
-pub struct Written {
+pub struct BoxWritten {
     pub number: u8,
     pub length: usize,
+}
+
+// Whether a code names one of the four schemes.
+pub fn known(code: &[u8]) -> bool
+    ensures { λ r. ⌜ r ≡ spec.known (now (code .entry)) ⌝ }
+{
+    if octets::same(code, b"cenc") {
+        return true;
+    }
+    if octets::same(code, b"cbc1") {
+        return true;
+    }
+    if octets::same(code, b"cens") {
+        return true;
+    }
+    octets::same(code, b"cbcs")
+}
+
+// Whether the track has a constant IV.
+pub fn has_constant(protected: u8, iv_size: u8) -> bool
+    ensures { λ r. ⌜ r ≡ spec.hasConstant protected «iv_size» ⌝ }
+{
+    protected == 1 && iv_size == 0
+}
+
+fn no_pattern(crypt: u8, skip: u8) -> bool
+    ensures { λ r. ⌜ r ≡ spec.noPattern crypt skip ⌝ }
+{
+    crypt == 0 && skip == 0
+}
+
+fn a_pattern(crypt: u8, skip: u8) -> bool
+    ensures { λ r. ⌜ r ≡ spec.aPattern crypt skip ⌝ }
+{
+    if crypt < 1 {
+        return false;
+    }
+    if 15 < crypt {
+        return false;
+    }
+    skip <= 15
+}
+
+fn eight_or_sixteen(iv_size: u8) -> bool
+    ensures { λ r. ⌜ r ≡ spec.eightOrSixteen «iv_size» ⌝ }
+{
+    iv_size == 8 || iv_size == 16
+}
+
+fn both(a: bool, b: bool) -> bool
+    ensures { λ r. ⌜ r ≡ a && b ⌝ }
+{
+    if a { b } else { false }
+}
+
+// What a protected track of each scheme may have.
+fn allowed_protected(code: [u8; 4], iv_size: u8, crypt: u8, skip: u8) -> bool
+    ensures { λ r. ⌜ r ≡ spec.allowedProtected code «iv_size» crypt skip ⌝ }
+{
+    let none = no_pattern(crypt, skip);
+    let some = a_pattern(crypt, skip);
+    if octets::same(&code, b"cenc") {
+        return both(eight_or_sixteen(iv_size), none);
+    }
+    if octets::same(&code, b"cbc1") {
+        return both(iv_size == 16, none);
+    }
+    if octets::same(&code, b"cens") {
+        return both(eight_or_sixteen(iv_size), some);
+    }
+    both(iv_size == 0, some)
+}
+
+fn allowed_fields(code: [u8; 4], protected: u8, iv_size: u8, crypt: u8, skip: u8) -> bool
+    ensures { λ r. ⌜ r ≡ spec.allowedFields code protected «iv_size» crypt skip ⌝ }
+{
+    if protected == 0 {
+        return both(iv_size == 0, no_pattern(crypt, skip));
+    }
+    both(
+        protected == 1,
+        allowed_protected(code, iv_size, crypt, skip),
+    )
+}
+
+// Whether the fields are allowed, and the constant IV zero where none is called for.
+fn allowed(p: Parameters) -> bool
+    ensures { λ r. ⌜ r ≡ spec.allowed p ⌝ }
+{
+    let iv = p.constant_iv;
+    let code = p.code;
+    let fields = allowed_fields(code, p.protected, p.iv_size, p.crypt, p.skip);
+    if has_constant(p.protected, p.iv_size) {
+        return fields;
+    }
+    both(octets::same(&iv.bytes(), &[0; 16]), fields)
+}
+
+fn bad_version(version: u8, crypt: u8, skip: u8) -> bool
+    ensures { λ r. ⌜ r ≡ spec.badVersion version crypt skip ⌝ }
+{
+    if 1 < version {
+        return true;
+    }
+    version == 0 && !no_pattern(crypt, skip)
+}
+
+fn box_length(protected: u8, iv_size: u8) -> usize
+    ensures { λ r. ⌜ r ≡ spec.boxLength protected «iv_size» ⌝ }
+{
+    if has_constant(protected, iv_size) {
+        Parameters::BOX_WITH_CONSTANT_IV
+    } else {
+        Parameters::BOX
+    }
+}
+
+// The fields of a box under a known code; a byte past the box's end counts as zero.
+fn fields(code: &[u8], track_box: &[u8]) -> Parameters
+    requires { ⌜ (spec.known (now code) ≡ true) × (16 ≤ length (now «track_box»)) ⌝ }
+    ensures { λ r. ⌜ r ≡ spec.fields (now (code .entry)) (now («track_box» .entry)) ⌝ }
+{
+    let pattern = track_box[13];
+    let protected = track_box[14];
+    let iv_size = track_box[15];
+    Parameters {
+        code: octets::four(code),
+        version: track_box[8],
+        crypt: pattern / 16,
+        skip: pattern % 16,
+        protected,
+        iv_size,
+        kid: Kid::new(octets::sixteen_at(track_box, 16)),
+        constant_iv: StartVector::new(constant(track_box, protected, iv_size)),
+    }
+}
+
+// The constant IV, or zeros where none is called for.
+fn constant(track_box: &[u8], protected: u8, iv_size: u8) -> [u8; 16]
+    ensures { λ r. ⌜ r ≡ cond (spec.hasConstant protected «iv_size») (filled 16 (drop 33 (now («track_box» .entry)))) spec.zeros ⌝ }
+{
+    if has_constant(protected, iv_size) {
+        octets::sixteen_at(track_box, 33)
+    } else {
+        [0; 16]
+    }
+}
+
+// 2: the frame of the box.
+fn bad_frame(track_box: &[u8]) -> bool
+    ensures { λ r. ⌜ r ≡ spec.badFrame (now («track_box» .entry)) ⌝ }
+{
+    if track_box.len() < Parameters::BOX {
+        return true;
+    }
+    if octets::be32(track_box, 0) as usize != track_box.len() {
+        return true;
+    }
+    !octets::same(&track_box[4..8], b"tenc")
+}
+
+// 3: version, flags, zero byte and pattern.
+fn bad_head(track_box: &[u8], p: Parameters) -> bool
+    ensures { λ r. ⌜ r ≡ spec.badHead (now («track_box» .entry)) p ⌝ }
+{
+    if bad_version(p.version, p.crypt, p.skip) {
+        return true;
+    }
+    octets::be32(track_box, 9) != 0
+}
+
+// 4: the fields and the length that they call for.
+fn bad_fields(track_box: &[u8], p: Parameters) -> bool
+    requires { ⌜ 32 ≤ length (now «track_box») ⌝ }
+    ensures { λ r. ⌜ r ≡ spec.badFields (now («track_box» .entry)) p ⌝ }
+{
+    if !allowed(p) {
+        return true;
+    }
+    if track_box.len() != box_length(p.protected, p.iv_size) {
+        return true;
+    }
+    if has_constant(p.protected, p.iv_size) {
+        return octets::byte_at(track_box, 32) != 16;
+    }
+    false
+}
+
+fn refused(number: u8) -> BoxRead
+    ensures { λ r. ⌜ r ≡ record { number = number; parameters = spec.unprotected } ⌝ }
+{
+    BoxRead {
+        number,
+        parameters: Parameters::unprotected(),
+    }
+}
+
+// Reads a box under a scheme code: 1 to 4.
+pub fn read(code: &[u8], track_box: &[u8]) -> BoxRead
+    ensures { λ r. ⌜ r ≡ spec.readBox (now (code .entry)) (now («track_box» .entry)) ⌝ }
+{
+    if !known(code) {
+        return refused(refusal::SCHEME);
+    }
+    if bad_frame(track_box) {
+        return refused(refusal::FRAME);
+    }
+    let p = fields(code, track_box);
+    if bad_head(track_box, p) {
+        return refused(refusal::VERSION);
+    }
+    if bad_fields(track_box, p) {
+        return refused(refusal::FIELDS);
+    }
+    BoxRead {
+        number: refusal::DONE,
+        parameters: p,
+    }
 }
