@@ -21,11 +21,11 @@ same-true a b e = rw (sym e) (go a)
     go [] = refl
     go (x ∷ xs) = rw (eq-eqb x x refl) (go xs)
 
-&&-left : (a b : Bool) → a && b ≡ true → a ≡ true
+pub &&-left : (a b : Bool) → a && b ≡ true → a ≡ true
 &&-left true b e = refl
 &&-left false b e = e
 
-&&-right : (a b : Bool) → a && b ≡ true → b ≡ true
+pub &&-right : (a b : Bool) → a && b ≡ true → b ≡ true
 &&-right true b e = e
 &&-right false b e = absurd (false≢true e)
 

@@ -7,6 +7,8 @@ use native.Mathlib.Omega.{arith}
 use lib.ListN.{length, getD, take, drop, set, length-append, length-drop, drop-of-length-le}
 use lib.Seq.{drop-cons, drop-drop, set-at, getD-at, take-suc, take-at, drop-at}
 use borrow.Rule.Slice.PartMut.{putMid}
+use Rattle.octets.specs.Bytes.{placed}
+use Rattle.octets.proofs.Bytes.{placed-fits}
 
 pub record Filled (xs ys p : List ℕ) (i : ℕ) : Type 0 where
   pub here : ys ≡ p ++ drop i xs
@@ -56,6 +58,18 @@ module _ {xs ys p : List ℕ} {i : ℕ} (f : Filled xs ys p i) where
         size = simp length-append (omega (arith, f .size));
         fits = h;
       })
+
+  -- a string is placed at i
+  pub fill-placed : (b : List ℕ) (e : ℕ) → i + length b ≡ e → e ≤ length xs → Filled xs (placed ys i b) (p ++ b) e
+  fill-placed b e n h =
+      record {
+        here =
+            placed-fits ys i b (omega (arith, fill-length))
+            ∙ rw (fill-take, ← (drop-drop (length b) i ys), fill-drop, drop-drop (length b) i xs, n)
+            (sym (append-assoc p b (drop e xs)));
+        size = length-append p b ∙ ap (λ (k : ℕ). k + length b) (f .size) ∙ n;
+        fits = h;
+      }
 
 -- one element more
 pub take-next : (xs : List ℕ) (i : ℕ) → i < length xs → take (i + 1) xs ≡ take i xs ++ (getD xs i 0 ∷ [])

@@ -1,3 +1,3 @@
 pub mod Xor
-pub mod Fill
 pub mod Bytes
+pub mod Fill

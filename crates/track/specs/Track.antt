@@ -135,12 +135,16 @@ readBox code box =
 
 -- ---- Writing.
 
+-- Version, flags, zero byte, pattern, protected flag and IV size.
+abbrev pub head : Parameters → List ℕ
+head p = p .version ∷ 0 ∷ 0 ∷ 0 ∷ 0 ∷ (p .crypt * 16 + p .skip) ∷ p .protected ∷ p .«iv_size» ∷ []
+
 -- The bytes of a box.
 unfoldable pub boxBytes : Parameters → List ℕ
 boxBytes p =
     digits 4 (boxLength (p .protected) (p .«iv_size»))
     ++ (tenc
-    ++ ((p .version ∷ 0 ∷ 0 ∷ 0 ∷ 0 ∷ (p .crypt * 16 + p .skip) ∷ p .protected ∷ p .«iv_size» ∷ [])
+    ++ (head p
     ++ (p .kid .0 ++ cond (hasConstant (p .protected) (p .«iv_size»)) (16 ∷ p .«constant_iv» .0) [])))
 
 -- The output's length is room.

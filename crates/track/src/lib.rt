@@ -2,11 +2,13 @@
 pub mod refusal;
 
 ghost use mathlib.Core.Bool.{true, cond, _&&_};
+ghost use mathlib.Core.List.{[], _∷_, _++_};
 ghost use mathlib.Core.Path.{_≡_};
 ghost use Prim.Native.Nat.{_≤_};
 ghost use lib.ListN.{length, drop};
-ghost use Rattle.octets.specs.Bytes.{filled};
+ghost use Rattle.octets.specs.Bytes.{filled, placed};
 ghost use Rattle.track.specs.Track as spec;
+ghost use Rattle.track.specs.Front.{front};
 
 // The KID of a track: the name of its key.
 pub struct Kid(pub [u8; 16]);
@@ -107,6 +109,12 @@ pub fn known(code: &[u8]) -> bool
         return true;
     }
     octets::same(code, b"cbcs")
+}
+
+fn names_scheme(code: [u8; 4]) -> bool
+    ensures { λ r. ⌜ r ≡ spec.known code ⌝ }
+{
+    known(&code)
 }
 
 // Whether the track has a constant IV.
@@ -308,5 +316,95 @@ pub fn read(code: &[u8], track_box: &[u8]) -> BoxRead
     BoxRead {
         number: refusal::DONE,
         parameters: p,
+    }
+}
+
+// The constant IV with its size, at its place.
+fn store_constant(iv: StartVector, out: &mut [u8])
+    requires { ⌜ 49 ≤ length (now out) ⌝ }
+    ensures { λ r. ⌜ now (out .exit) ≡ placed (placed (now (out .entry)) 32 (16 ∷ [])) 33 (iv .0) ⌝ }
+{
+    octets::copy(&[16], out, 32);
+    octets::copy(&iv.bytes(), out, 33);
+}
+
+// Version to IV size, the eight bytes after the type.
+fn head(p: Parameters) -> [u8; 8]
+    requires { ⌜ (p .crypt ≤ 15) × (p .skip ≤ 15) ⌝ }
+    ensures { λ r. ⌜ r ≡ spec.head p ⌝ }
+{
+    [
+        p.version,
+        0,
+        0,
+        0,
+        0,
+        p.crypt * 16 + p.skip,
+        p.protected,
+        p.iv_size,
+    ]
+}
+
+// The first 32 bytes of a box of some length.
+fn store_front(p: Parameters, length: u32, out: &mut [u8])
+    requires { ⌜ (p .crypt ≤ 15) × (p .skip ≤ 15) ⌝ }
+    ensures { λ r. ⌜ now (out .exit) ≡ front p «length» (now (out .entry)) ⌝ }
+{
+    let kid = p.kid;
+    octets::put32(length, out, 0);
+    octets::copy(b"tenc", out, 4);
+    octets::copy(&head(p), out, 8);
+    octets::copy(&kid.bytes(), out, 16);
+}
+
+// The box in front of the output.
+fn store(p: Parameters, out: &mut [u8])
+    requires { ⌜ (spec.allowed p ≡ true) × (spec.boxLength (p .protected) (p .«iv_size») ≤ length (now out)) ⌝ }
+    ensures { λ r. ⌜ now (out .exit) ≡ spec.boxBytes p ++ drop (spec.boxLength (p .protected) (p .«iv_size»)) (now (out .entry)) ⌝ }
+{
+    let iv = p.constant_iv;
+    if has_constant(p.protected, p.iv_size) {
+        store_front(p, 49, out);
+        store_constant(iv, out);
+    } else {
+        store_front(p, 32, out);
+    }
+}
+
+// Writes the box of some parameters: 1, 3, 4, 17. Only the box's bytes change, and none if refused.
+pub fn write(parameters: Parameters, out: &mut [u8]) -> BoxWritten
+    ensures { λ r. ⌜ (r ≡ spec.writeBox parameters (length (now (out .entry))))
+        × (now (out .exit) ≡ spec.afterWriting parameters (now (out .entry))) ⌝ }
+{
+    let code = parameters.code;
+    if !names_scheme(code) {
+        return BoxWritten {
+            number: refusal::SCHEME,
+            length: 0,
+        };
+    }
+    if bad_version(parameters.version, parameters.crypt, parameters.skip) {
+        return BoxWritten {
+            number: refusal::VERSION,
+            length: 0,
+        };
+    }
+    if !allowed(parameters) {
+        return BoxWritten {
+            number: refusal::FIELDS,
+            length: 0,
+        };
+    }
+    let length = box_length(parameters.protected, parameters.iv_size);
+    if out.len() < length {
+        return BoxWritten {
+            number: refusal::ROOM,
+            length: 0,
+        };
+    }
+    store(parameters, out);
+    BoxWritten {
+        number: refusal::DONE,
+        length,
     }
 }
