@@ -2,15 +2,15 @@
 use mathlib.Core.Bool.{Bool, true, false, _&&_, false≢true}
 use mathlib.Core.List.{List, [], _∷_, _++_, append-assoc, append-nil}
 use mathlib.Core.Path.{_≡_, refl, sym, ap, _∙_}
-use Prim.Native.Nat.{ℕ, zero, suc, _+_, _-_, _*_, _^_, _≤_, _<_}
+use Prim.Native.Nat.{ℕ, zero, suc, _+_, _-_, _*_, _/_, _%_, _^_, _≤_, _<_}
 use native.Mathlib.Nat.{pow-suc, pow-le-pow-right}
 use native.Mathlib.Numerals.{add-one}
 use native.Mathlib.Omega.{arith}
 use lib.Dec.{eqb, lit<}
-use lib.ListN.{length, getD, take, drop, replicate, drop-of-length-le, List·getD-eq-default}
-use lib.Seq.{paste, take-length, take-all, take-append-le, take-append-add}
+use lib.ListN.{length, getD, take, drop, replicate, length-drop, drop-of-length-le, List·getD-eq-default}
+use lib.Seq.{take-suc, getD-drop, paste, take-length, take-all, take-append-le, take-append-add}
 use borrow.Author.Tests.{eq-eqb, eqb-true, le-leb, lt-leb}
-use Rattle.octets.specs.Bytes.{listOf, same, number, placed, filled}
+use Rattle.octets.specs.Bytes.{listOf, same, number, digits, placed, filled}
 
 -- comparing
 pub same-true : (a b : List ℕ) → a ≡ b → same a b ≡ true
@@ -67,6 +67,19 @@ pub number-room : (n : ℕ) (s : List ℕ) (at : ℕ) → ((i : ℕ) → getD s 
 number-room n s at h l =
     let p : 256 ^ n ≤ 256 ^ 7 = pow-le-pow-right (lit< tt) {i = n} {j = 7} (omega arith) in
     omega (arith, number-below n s at h)
+
+-- the bytes of the number at a place are the bytes there
+pub digits-number : (n : ℕ) (s : List ℕ) (at : ℕ) → ((i : ℕ) → getD s i 0 < 256) → at + n ≤ length s
+    → digits n (number n s at) ≡ take n (drop at s)
+unfolding digits number
+digits-number zero s at h l = refl
+digits-number (suc n) s at h l =
+    let a = number n s at in
+    let b = getD s (at + n) 0 in
+    let q : (a * 256 + b) / 256 ≡ a = omega (arith, h (at + n)) in
+    let r : (a * 256 + b) % 256 ≡ b = omega (arith, h (at + n)) in
+    let k : n < length (drop at s) = simp length-drop (omega arith) in
+    rw (q, r, digits-number n s at h (omega arith)) (sym (take-suc (drop at s) n 0 k ∙ rw (getD-drop at s n 0)))
 
 -- a string placed in another
 pub placed-fits : (s : List ℕ) (at : ℕ) (b : List ℕ) → at + length b ≤ length s
@@ -143,3 +156,8 @@ getD-listOf (suc m) f d (suc n) h = getD-listOf m (λ i. f (suc i)) d n (omega a
 pub listOf-getD : {A : Type 0} (d : A) (xs : List A) → listOf (length xs) (λ i. getD xs i d) ≡ xs
 listOf-getD d [] = refl
 listOf-getD {A} d (x ∷ xs) = ap {B = List A} (λ r. x ∷ r) (listOf-getD d xs)
+
+-- a part of a string by its elements
+pub part-listOf : (n : ℕ) (s : List ℕ) (at : ℕ) → at + n ≤ length s → take n (drop at s) ≡ listOf n (λ i. getD s (at + i) 0)
+part-listOf n s at h =
+    sym (filled-long n (drop at s) (simp length-drop (omega arith))) ∙ filled-listOf n (drop at s) ∙ simp getD-drop

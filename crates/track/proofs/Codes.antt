@@ -1,5 +1,5 @@
 -- What a known code, a sound frame and allowed fields say.
-use mathlib.Core.Bool.{Bool, true, false, cond, not, _&&_, _||_}
+use mathlib.Core.Bool.{Bool, true, false, cond, not, _&&_, _||_, true≢false}
 use mathlib.Core.List.{List}
 use mathlib.Core.Logic.{_⊎_, inl, inr, ⊎-elim}
 use mathlib.Core.Path.{_≡_, refl, ap}
@@ -20,6 +20,10 @@ or-true-cases false b e = inr e
 pub or-false-left : (a b : Bool) → a || b ≡ false → a ≡ false
 or-false-left true b e = e
 or-false-left false b e = refl
+
+pub or-false-right : (a b : Bool) → a || b ≡ false → b ≡ false
+or-false-right true b e = absurd (true≢false e)
+or-false-right false b e = e
 
 -- a known code is one of the four
 pub known-cases : (code : List ℕ) → known code ≡ true → (code ≡ cenc) ⊎ ((code ≡ cbc1) ⊎ ((code ≡ cens) ⊎ (code ≡ cbcs)))

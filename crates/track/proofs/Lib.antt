@@ -1,2 +1,5 @@
 pub mod Codes
 pub mod Writing
+pub mod RoundTrip
+pub mod Depends
+pub mod Examples
