@@ -3,6 +3,7 @@ use mathlib.Core.Bool.{Bool, true, false, cond, not, _&&_, _||_}
 use mathlib.Core.List.{List, [], _∷_, _++_, append-nil}
 use mathlib.Core.Path.{_≡_, refl, sym, ap, ap₂, _∙_}
 use Prim.Native.Nat.{ℕ, _+_, _*_, _/_, _%_, _≤_, _<_}
+use native.Mathlib.Nat.{le-of-eq}
 use native.Mathlib.Omega.{arith}
 use lib.Dec.{eqb, ltb}
 use lib.ListN.{length, getD, take, drop, length-drop, length-append, take-append-drop, drop-of-length-le}
@@ -99,9 +100,17 @@ read-write code box small h =
     let a = accepted code box h in
     let n : 32 ≤ length box = a .long in
     let front : digits 4 (boxLength (getD box 14 0) (getD box 15 0)) ≡ take 4 box =
-        ap (digits 4) (sym (a .size ∙ a .fits)) ∙ digits-number 4 box 0 small (omega arith) in
+    ap (digits 4) (sym (a .size ∙ a .fits)) ∙ digits-number 4 box 0 small (omega arith) in
     let kid : filled 16 (drop 16 box) ≡ take 16 (drop 16 box) = filled-long 16 (drop 16 box) (simp length-drop (omega arith)) in
     joined _ _ _ _ _ box front (sym (a .type)) (sym (head-read code box small a)) kid (sym (rest-read code box a))
+
+-- and the writer accepts it, in an output of the box's length.
+pub read-accepted : (code box : List ℕ) → answer (readRows code box) ≡ 0 → answer (writeRows (fields code box) (length box)) ≡ 0
+unfolding writeRows answer fields
+read-accepted code box h =
+    let a = accepted code box h in
+    let room : ltb (length box) (boxLength (getD box 14 0) (getD box 15 0)) ≡ false = le-ltb _ _ (le-of-eq (sym (a .fits))) in
+    rw (a .known-code, a .version, a .permitted, room)
 
 -- The parameters as the code's types hold them.
 pub record Held (p : Parameters) : Type 0 where
@@ -173,7 +182,7 @@ module _ (p : Parameters) (held : Held p) (small : (p .crypt ≤ 15) × (p .skip
     unfolding allowed
     read-plain e =
         let z : p .«constant_iv» .0 ≡ zeros =
-            same-equal (p .«constant_iv» .0) zeros (&&-left (same (p .«constant_iv» .0) zeros) _ (rw e at a)) in
+        same-equal (p .«constant_iv» .0) zeros (&&-left (same (p .«constant_iv» .0) zeros) _ (rw e at a)) in
         image-read 32 [] size-plain (image-fields 32 [] (rw e (sym z))) k v a (rw e) (rw e)
 
     read-constant : hasConstant (p .protected) (p .«iv_size») ≡ true
@@ -184,7 +193,7 @@ module _ (p : Parameters) (held : Held p) (small : (p .crypt ≤ 15) × (p .skip
         let n : 49 ≡ 32 + length (16 ∷ iv) = omega (arith, held .constant) in
         let m : 17 ≡ length (p .kid .0) + 1 = omega (arith, held .kid) in
         let d : drop 17 (p .kid .0 ++ (16 ∷ iv)) ≡ iv =
-            ap (λ (n : ℕ). drop n (p .kid .0 ++ (16 ∷ iv))) m ∙ drop-append-add (p .kid .0) (16 ∷ iv) 1 in
+        ap (λ (n : ℕ). drop n (p .kid .0 ++ (16 ∷ iv))) m ∙ drop-append-add (p .kid .0) (16 ∷ iv) 1 in
         let f : filled 16 (drop 17 (p .kid .0 ++ (16 ∷ iv))) ≡ iv = ap (filled 16) d ∙ filled-all 16 iv (held .constant) in
         let g : getD (p .kid .0 ++ (16 ∷ iv)) 16 0 ≡ 16 = getD-at (p .kid .0) 16 iv 0 16 (held .kid) in
         image-read 49 (16 ∷ iv) (size-constant (16 ∷ iv) ∙ n) (image-fields 49 (16 ∷ iv) (rw e f)) k v a (rw e (sym n)) (rw (e, g))
@@ -197,12 +206,16 @@ write-read p room held h = go (hasConstant (p .protected) (p .«iv_size»)) refl
   where
     k : known (p .code) ≡ true
     k = not-false _ (done-head 1 _ _ (omega arith) h)
+
     h1 : answer (row 3 (badVersion (p .version) (p .crypt) (p .skip)) ∷ row 4 (not (allowed p)) ∷ row 17 (ltb room (boxLength (p .protected) (p .«iv_size»))) ∷ []) ≡ 0
     h1 = done-tail 1 _ _ (omega arith) h
+
     v : badVersion (p .version) (p .crypt) (p .skip) ≡ false
     v = done-head 3 _ _ (omega arith) h1
+
     a : allowed p ≡ true
     a = not-false _ (done-head 4 _ _ (omega arith) (done-tail 3 _ _ (omega arith) h1))
+
     go : (t : Bool) → hasConstant (p .protected) (p .«iv_size») ≡ t → readBox (p .code) (boxBytes p) ≡ record { number = 0; parameters = p }
     go true e = ap (readBox (p .code)) (bytes-constant p held (allowed-small p a) e) ∙ read-constant p held (allowed-small p a) k v a e
     go false e = ap (readBox (p .code)) (bytes-plain p held (allowed-small p a) e) ∙ read-plain p held (allowed-small p a) k v a e
