@@ -1,0 +1,4 @@
+pub mod Texts
+pub mod Cases
+pub mod Cut
+pub mod Examples

@@ -1,0 +1,119 @@
+-- Texts: their lengths, and what stands where they are put.
+use mathlib.Core.Bool.{Bool, true, false, cond}
+use mathlib.Core.List.{List, [], _∷_, _++_, append-assoc}
+use mathlib.Core.Path.{_≡_, refl, sym, ap, _∙_}
+use Prim.Native.Nat.{ℕ, _+_, _*_, _/_, _%_, _≤_, _<_}
+use native.Mathlib.Omega.{arith}
+use lib.Dec.{ltb}
+use lib.ListN.{length, getD, take, drop, length-append, length-drop}
+use lib.Seq.{length-take-le, drop-drop, take-at, drop-at}
+use borrow.Author.Tests.{lt-ltb, le-ltb}
+use Rattle.octets.specs.Bytes.{placed}
+use Rattle.octets.proofs.Fill.{take-next}
+use Rattle.octets.proofs.Bytes.{placed-fits}
+use Rattle.sheet.specs.Ascii.{ascii}
+use Rattle.sheet.specs.Sheet.{digit, decimal, hex, line, patternLine, constantLine, Put}
+
+-- ---- Numbers and bytes.
+
+module _ (n : ℕ) where
+  pub decimal-one : n < 10 → decimal n ≡ digit n ∷ []
+  unfolding decimal
+  decimal-one h = rw (lt-ltb n 10 h)
+
+  pub decimal-two : 10 ≤ n → n < 100 → decimal n ≡ digit (n / 10) ∷ digit (n % 10) ∷ []
+  unfolding decimal
+  decimal-two l h = rw (le-ltb n 10 l, lt-ltb n 100 h)
+
+  pub decimal-three : 100 ≤ n → decimal n ≡ digit (n / 100) ∷ digit (n / 10 % 10) ∷ digit (n % 10) ∷ []
+  unfolding decimal
+  decimal-three l = rw (le-ltb n 10 (omega arith), le-ltb n 100 l)
+
+at-most : (k : ℕ) (t : Bool) (a b : List ℕ) → length a ≤ k → length b ≤ k → length (cond t a b) ≤ k
+at-most k true a b h l = h
+at-most k false a b h l = l
+
+decimal-length : (n : ℕ) → length (decimal n) ≤ 3
+unfolding decimal
+decimal-length n = at-most 3 (ltb n 10) _ _ (omega arith) (at-most 3 (ltb n 100) _ _ (omega arith) (omega arith))
+
+hex-append : (a b : List ℕ) → hex (a ++ b) ≡ hex a ++ hex b
+unfolding hex
+hex-append [] b = refl
+hex-append (x ∷ a) b = rw (hex-append a b)
+
+pub hex-next : (s : List ℕ) (i : ℕ) → i < length s
+    → hex (take (i + 1) s) ≡ hex (take i s) ++ (digit (getD s i 0 / 16) ∷ digit (getD s i 0 % 16) ∷ [])
+unfolding hex
+hex-next s i l = ap hex (take-next s i l) ∙ hex-append (take i s) (getD s i 0 ∷ [])
+
+hex-length : (s : List ℕ) → length (hex s) ≡ 2 * length s
+unfolding hex
+hex-length [] = refl
+hex-length (b ∷ bs) = omega (arith, hex-length bs)
+
+-- ---- Lines.
+
+pub line-length : (name value : List ℕ) → length (line name value) ≡ length name + length value + 1
+line-length name value = simp length-append (omega arith)
+
+pub number-bound : (name : List ℕ) (n : ℕ) → length (line name (decimal n)) ≤ length name + 4
+number-bound name n = omega (arith, line-length name (decimal n), decimal-length n)
+
+pub pattern-length : (crypt skip : ℕ) → length (patternLine crypt skip) ≡ 10 + length (decimal crypt) + length (decimal skip)
+unfolding patternLine
+pattern-length crypt skip = simp length-append (omega arith)
+
+pub pattern-bound : (crypt skip : ℕ) → length (patternLine crypt skip) ≤ 16
+pattern-bound crypt skip = omega (arith, pattern-length crypt skip, decimal-length crypt, decimal-length skip)
+
+pub constant-some : (has : Bool) (constant : List ℕ) → has ≡ true → constantLine has constant ≡ line (ascii "constant ") (hex constant)
+unfolding constantLine
+constant-some has constant e = rw e
+
+pub constant-none : (has : Bool) (constant : List ℕ) → has ≡ false → constantLine has constant ≡ line (ascii "constant ") (ascii "none")
+unfolding constantLine
+constant-none has constant e = rw e
+
+pub constant-bound : (has : Bool) (constant : List ℕ) → length constant ≡ 16 → length (constantLine has constant) ≤ 42
+constant-bound true constant n =
+    omega (arith, ap length (constant-some true constant refl), line-length (ascii "constant ") (hex constant), hex-length constant)
+constant-bound false constant n = omega (arith, ap length (constant-none false constant refl))
+
+-- ---- Texts in their places.
+
+pub put-placed : (s : List ℕ) (at : ℕ) (text : List ℕ) → at + length text ≤ length s
+    → Put s (placed s at text) at text (at + length text)
+put-placed s at text l = record { here = placed-fits s at text l; ends = refl; fits = l }
+
+-- a text and another where it ends are one text
+module _ {s t u : List ℕ} {at m r : ℕ} {a b : List ℕ} (p : Put s t at a m) (q : Put t u m b r) where
+  head-length : length (take at s ++ a) ≡ m
+  head-length = simp (length-append, length-take-le at s (omega (arith, p .ends, p .fits))) (sym (p .ends))
+
+  split : t ≡ (take at s ++ a) ++ drop m s
+  split = p .here ∙ sym (append-assoc (take at s) a (drop m s))
+
+  same-length : length t ≡ length s
+  same-length = ap length split ∙ simp (length-append, length-drop) (omega (arith, simp length-append at head-length, p .fits))
+
+  front : take m t ≡ take at s ++ a
+  front = ap (take m) split ∙ take-at (take at s ++ a) (drop m s) m head-length
+
+  rest : drop r t ≡ drop r s
+  rest =
+      rw (q .ends, ← drop-drop (length b) m t, ← drop-drop (length b) m s)
+      (ap (drop (length b)) (ap (drop m) split ∙ drop-at (take at s ++ a) (drop m s) m head-length))
+
+  pub put-then : Put s u at (a ++ b) r
+  put-then =
+      record {
+        here = q .here ∙ rw (front, rest) (simp append-assoc);
+        ends = simp length-append (omega (arith, p .ends, q .ends));
+        fits = omega (arith, q .fits, same-length);
+      }
+
+-- a text put in front
+pub in-front : {s t text : List ℕ} {r : ℕ} (l : List ℕ) → Put s t 0 text r → l ≡ text
+    → (r ≡ length l) × (t ≡ l ++ drop r s)
+in-front l p e = rw e (omega (arith, p .ends), p .here)

@@ -1,0 +1,50 @@
+use mathlib.Core.Path.{_≡_, ap, _∙_}
+use Prim.Native.Nat.{_-_}
+use lib.ListN.{length, take, drop, length-drop}
+use lib.Seq.{take-all}
+use Rattle.track.specs.Track.{readBox}
+use Rattle.sheet.proofs.Texts.{in-front}
+use Rattle.sheet.proofs.Cases.{lines-short, lines-unknown, lines-long, lines-refused, lines-done}
+use borrow.Author.Needs.{needs}
+use native.Mathlib.Omega.{arith}
+use Rattle.sheet.proofs.render.Statement.{statement}
+use Rattle.sheet.proofs.render.Tie as tie
+
+-- what reading the box answers
+box-read : (c : tie.After-read) → c .read .result ≡ readBox (take 4 (c .before .before .before .before .before .args .input .now)) (drop 4 (c .before .before .before .before .before .args .input .now))
+box-read c =
+    let s = c .before .before .before .before .before .args .input .now in
+    c .read .ensures ∙ ap (readBox (take 4 s)) (take-all (length s - 4) (drop 4 s) (simp length-drop (omega arith)))
+
+returns : tie.Need-returns
+returns c = in-front _ (c .refused .ensures) (lines-short _ (c .before .before .if1 .taken))
+
+returns-2 : tie.Need-returns-2
+returns-2 c =
+    let k = c .before .before .before in
+    in-front _ (c .refused2 .ensures) (lines-unknown _ (k .before .before .before .if1 .left) _ (box-read k) (c .before .before .if2 .taken))
+
+returns-3 : tie.Need-returns-3
+returns-3 c =
+    let k = c .before .before .before .before in
+    in-front _ (c .refused3 .ensures)
+    (lines-long _ (k .before .before .before .if1 .left) _ (box-read k) (c .before .before .before .if2 .left) (c .before .before .if3 .taken))
+
+returns-4 : tie.Need-returns-4
+returns-4 c =
+    let k = c .before .before .before .before .before in
+    in-front _ (c .refused4 .ensures)
+    (lines-refused _ (k .before .before .before .if1 .left) _ (box-read k) (c .before .before .before .before .if2 .left) (c .before .before .before .if3 .left) (c .before .before .if4 .taken))
+
+returns-5 : tie.Need-returns-5
+returns-5 c =
+    let k = c .before .before .before .before .before .before in
+    in-front _ (c .sheet .ensures)
+    (lines-done _ (k .before .before .before .if1 .left) _ (box-read k) (c .before .before .before .before .before .if2 .left) (c .before .before .before .before .if3 .left) (c .before .before .before .if4 .left))
+
+pub render-spec : {M : Type 1} → statement M
+render-spec =
+    tie.close
+    (tie.spec (search needs) returns (search needs) (search needs) (search needs) (search needs) (search needs)
+    (search needs) (search needs) (search needs) returns-2 (search needs) returns-3 (search needs) returns-4
+    (search needs) returns-5)
