@@ -1,0 +1,49 @@
+-- What the tables of auxiliary data say of a box and of sizes.
+use mathlib.Core.Bool.{Bool, true, false, cond, not, _&&_, _||_}
+use mathlib.Core.List.{List}
+use mathlib.Core.Path.{_≡_, refl, sym, ap, _∙_}
+use Prim.Native.Nat.{ℕ, _≤_}
+use native.Mathlib.Omega.{arith}
+use lib.Dec.{eqb, ltb, lit<}
+use lib.ListN.{length}
+use borrow.Author.Tests.{ltb-true, eqb-true, eq-eqb, ne-eqb, not-false}
+use Rattle.octets.specs.Answers.{answer}
+use Rattle.octets.proofs.Answers.{Refusals, none, more, join-done, join-refused}
+use Rattle.octets.proofs.Bytes.{&&-right}
+use Rattle.track.specs.declared.Parameters.{Parameters}
+use Rattle.track.specs.Track.{zeros, fields, readRows, readBox}
+use Rattle.subsample.specs.Auxiliary.{emptyMap, written, badSize, auxiliaryRows, handedOut, readUnder, readAuxiliary}
+
+pub read-refusals : (code box : List ℕ) → Refusals (readRows code box)
+unfolding readRows
+read-refusals code box = more (lit< tt) (more (lit< tt) (more (lit< tt) (more (lit< tt) none)))
+
+-- data of a right size has the IV
+pub size-iv : (p : Parameters) (aux : List ℕ) → badSize p aux ≡ false → p .«iv_size» ≤ length aux
+unfolding badSize
+size-iv p aux h = go (written p aux) refl
+  where
+    go : (t : Bool) → written p aux ≡ t → p .«iv_size» ≤ length aux
+    go true e = omega (arith, ltb-true (p .«iv_size») (length aux) (&&-right (eqb (p .protected) 1) _ e))
+    go false e = omega (arith, eqb-true (length aux) (p .«iv_size») (not-false _ (rw e at h)))
+
+-- the public reader: a refused box decides, and otherwise the data under the box's parameters
+module _ (code box : List ℕ) (n : ℕ) (aux : List ℕ) where
+  pub box-refused : (answer (readRows code box) ≡ 0 → ⊥)
+      → readAuxiliary code box n aux
+      ≡ record { number = readBox code box .number; map = emptyMap; iv = record { 0 = zeros } }
+  unfolding readAuxiliary handedOut readBox
+  box-refused h =
+      rw (join-refused (readRows code box) (auxiliaryRows (fields code box) n aux) h, ne-eqb (answer (readRows code box)) 0 h)
+
+  pub box-accepted : answer (readRows code box) ≡ 0 → readAuxiliary code box n aux ≡ readUnder (readBox code box .parameters) n aux
+  unfolding readAuxiliary readUnder readBox
+  box-accepted h =
+      rw (
+        join-done (read-refusals code box) (auxiliaryRows (fields code box) n aux) h,
+        eq-eqb (answer (readRows code box)) 0 h,
+      )
+
+  pub box-number : readBox code box .number ≡ answer (readRows code box)
+  unfolding readBox
+  box-number = refl
