@@ -1,0 +1,119 @@
+-- What the numbers depend on, and that accepted lengths add up.
+use mathlib.Core.Bool.{Bool, true, false, cond, not, _&&_, _||_}
+use mathlib.Core.List.{List, _∷_, _++_}
+use mathlib.Core.Path.{_≡_, refl, sym, ap, ap₂, _∙_}
+use Prim.Native.Nat.{ℕ, zero, suc, _+_, _*_, _≤_, _<_}
+use native.Mathlib.Omega.{arith}
+use lib.Dec.{eqb, ltb}
+use lib.ListN.{length, getD}
+use borrow.Author.Tests.{eqb-true, eqb-false, lt-ltb, not-false}
+use Rattle.octets.specs.Answers.{answer}
+use Rattle.octets.specs.Bytes.{listOf, number, filled}
+use Rattle.octets.proofs.Answers.{done-head, done-tail, join-done, join-refused}
+use Rattle.track.specs.declared.Parameters.{Parameters}
+use Rattle.track.specs.Track.{fields, readRows}
+use Rattle.track.proofs.Codes.{or-false-left, or-false-right}
+use Rattle.track.proofs.Depends.{Alike, read-alike}
+use Rattle.subsample.specs.Auxiliary.{limit, sum, entryLength, written, countWritten, badSize, entryCount, mapRead, mapRows, auxiliaryRows}
+use Rattle.subsample.proofs.Tables.{read-refusals}
+
+-- Parameters that differ at most in version, pattern, KID and constant IV, and data that differ at most in the IV's bytes.
+pub record AlikeData (p q : Parameters) (a b : List ℕ) : Type 0 where
+  pub code : p .code ≡ q .code
+  pub protected : p .protected ≡ q .protected
+  pub iv-size : p .«iv_size» ≡ q .«iv_size»
+  pub size : length a ≡ length b
+  pub after : (i : ℕ) → p .«iv_size» ≤ i → getD a i 0 ≡ getD b i 0
+
+listOf-alike : (n : ℕ) (f g : ℕ → ℕ) → ((i : ℕ) → f i ≡ g i) → listOf n f ≡ listOf n g
+listOf-alike zero f g h = refl
+listOf-alike (suc n) f g h = ap₂ (λ (x : ℕ) (l : List ℕ). x ∷ l) (h 0) (listOf-alike n (λ i. f (suc i)) (λ i. g (suc i)) (λ i. h (suc i)))
+
+module _ {p q : Parameters} {a b : List ℕ} (s : AlikeData p q a b) where
+  number-alike : (n at : ℕ) → p .«iv_size» ≤ at → number n a at ≡ number n b at
+  unfolding number
+  number-alike zero at h = refl
+  number-alike (suc n) at h = ap₂ (λ (x y : ℕ). x * 256 + y) (number-alike n at h) (s .after (at + n) (omega arith))
+
+  count-alike : number 2 a (p .«iv_size») ≡ number 2 b (p .«iv_size»)
+  count-alike = number-alike 2 (p .«iv_size») (omega arith)
+
+  size-alike : badSize p a ≡ badSize q b
+  unfolding badSize
+  size-alike = rw (← (s .protected), ← (s .iv-size), s .size, count-alike)
+
+  entries-alike : entryCount p a ≡ entryCount q b
+  unfolding entryCount
+  entries-alike = rw (← (s .protected), ← (s .iv-size), s .size, count-alike)
+
+  -- the numbers of w bytes, k bytes after the IV and every 6 bytes on
+  lengths-alike : (w k : ℕ)
+      → listOf (entryCount p a) (λ i. number w a (p .«iv_size» + k + 6 * i))
+      ≡ listOf (entryCount q b) (λ i. number w b (q .«iv_size» + k + 6 * i))
+  lengths-alike w k =
+      ap (λ (n : ℕ). listOf n (λ i. number w a (p .«iv_size» + k + 6 * i))) entries-alike
+      ∙ listOf-alike (entryCount q b) (λ i. number w a (p .«iv_size» + k + 6 * i)) (λ i. number w b (q .«iv_size» + k + 6 * i))
+      (λ i.
+      number-alike w (p .«iv_size» + k + 6 * i) (omega arith) ∙ ap (λ (v : ℕ). number w b (v + k + 6 * i)) (s .iv-size))
+
+  map-alike : mapRead p a ≡ mapRead q b
+  unfolding mapRead
+  map-alike = rw (lengths-alike 2 2, lengths-alike 4 4, entries-alike)
+
+  -- the number does not depend on IV bytes, under given parameters
+  pub auxiliary-alike : (n : ℕ) → answer (auxiliaryRows p n a) ≡ answer (auxiliaryRows q n b)
+  unfolding auxiliaryRows answer
+  auxiliary-alike n = rw (size-alike, map-alike, s .code)
+
+module _ (code : List ℕ) {x y : List ℕ} (s : Alike x y) (n : ℕ) (a b : List ℕ) (l : length a ≡ length b)
+    (h : (i : ℕ) → getD x 15 0 ≤ i → getD a i 0 ≡ getD b i 0) where
+  fields-alike : AlikeData (fields code x) (fields code y) a b
+  unfolding fields
+  fields-alike =
+      record {
+        code = refl;
+        protected = s .front 14 (omega arith);
+        iv-size = s .front 15 (omega arith);
+        size = l;
+        after = h;
+      }
+
+  -- the public reader's number depends neither on the KID nor on IV bytes
+  pub reader-alike : answer (readRows code x ++ auxiliaryRows (fields code x) n a)
+      ≡ answer (readRows code y ++ auxiliaryRows (fields code y) n b)
+  reader-alike = go (eqb (answer (readRows code x)) 0) refl
+    where
+      box : answer (readRows code x) ≡ answer (readRows code y)
+      box = read-alike s code
+
+      go : (t : Bool) → eqb (answer (readRows code x)) 0 ≡ t
+          → answer (readRows code x ++ auxiliaryRows (fields code x) n a) ≡ answer (readRows code y ++ auxiliaryRows (fields code y) n b)
+      go true e =
+          let z = eqb-true (answer (readRows code x)) 0 e in
+          join-done (read-refusals code x) (auxiliaryRows (fields code x) n a) z ∙ auxiliary-alike fields-alike n
+          ∙ sym (join-done (read-refusals code y) (auxiliaryRows (fields code y) n b) (sym box ∙ z))
+      go false e =
+          let z = eqb-false (answer (readRows code x)) 0 e in
+          join-refused (readRows code x) (auxiliaryRows (fields code x) n a) z ∙ box
+          ∙ sym (join-refused (readRows code y) (auxiliaryRows (fields code y) n b) (λ k. z (box ∙ k)))
+
+-- where entries are written and accepted their lengths add up to the sample's
+module _ (p : Parameters) (aux : List ℕ) (w : written p aux ≡ true) where
+  some-entry : badSize p aux ≡ false → 0 < mapRead p aux .count
+  unfolding badSize mapRead entryCount
+  some-entry h =
+      let k = or-false-right (ltb (length aux) (p .«iv_size» + 2)) (eqb (countWritten p aux) 0) (or-false-left _ _ (rw w at h)) in
+      rw w (zero-below (countWritten p aux) (eqb-false (countWritten p aux) 0 k))
+    where
+      zero-below : (c : ℕ) → (c ≡ 0 → ⊥) → 0 < c
+      zero-below c z = omega arith
+
+  pub lengths-add-up : (n : ℕ) → answer (auxiliaryRows p n aux) ≡ 0
+      → sum (entryLength (mapRead p aux)) (mapRead p aux .count) ≡ n
+  unfolding auxiliaryRows mapRows
+  lengths-add-up n h =
+      let h7 = done-tail 7 _ _ (omega arith) h in
+      let h9 = done-tail 9 _ _ (omega arith) (done-tail 8 _ _ (omega arith) h7) in
+      let r = done-head 11 _ _ (omega arith) (done-tail 10 _ _ (omega arith) h9) in
+      let c = lt-ltb 0 (mapRead p aux .count) (some-entry (done-head 8 _ _ (omega arith) h7)) in
+      eqb-true (sum (entryLength (mapRead p aux)) (mapRead p aux .count)) n (not-false _ (rw c at r))
