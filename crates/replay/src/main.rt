@@ -1,4 +1,5 @@
 // Calls of the library, a line each on standard input, answered by a line each on standard output.
+mod boxes;
 mod output;
 mod values;
 mod words;
@@ -27,6 +28,10 @@ pub enum Answer {
 }
 
 fn call(line: &[u8], bytes: &mut Bytes, lent: &mut Bytes, out: &mut Buffer, at: usize) -> Answer {
+    let kind = words::word(line, 0);
+    if octets::same(kind, b"box") {
+        return boxes::read(line, bytes, out, at);
+    }
     Answer::Malformed
 }
 
