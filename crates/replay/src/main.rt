@@ -1,49 +1,33 @@
-// Calls of the library, a line each on standard input, answered by a line each on standard output.
+// Calls of the library, one a line on standard input, each answered by a line on standard output.
 mod boxes;
+mod calls;
 mod output;
 mod values;
 mod words;
 
+use calls::Bytes;
 use libc::STDIN_FILENO;
 use output::Buffer;
 
-// The longest line.
+// The longest line, without its newline.
 const LONGEST: usize = 262144;
 
-pub type Line = [u8; 262144];
+type Line = [u8; 262144];
 
-// As many bytes as a line can hold.
-pub type Bytes = [u8; 131072];
-
-// What is held of a line after a piece of the input, unless the input is at its end.
-enum Turn {
-    Held(usize),
-    End,
-}
-
-// Where the answer's text ends, unless the line is malformed.
-pub enum Answer {
-    To(usize),
-    Malformed,
-}
-
-fn call(line: &[u8], bytes: &mut Bytes, lent: &mut Bytes, out: &mut Buffer, at: usize) -> Answer {
-    let kind = words::word(line, 0);
-    if octets::same(kind, b"box") {
-        return boxes::read(line, bytes, out, at);
+// Adds a piece to what is held of a line. Of a line that is too long nothing is held, and its length is one above the longest.
+fn hold(piece: &[u8], line: &mut Line, held: usize) -> usize {
+    if LONGEST < held {
+        return held;
     }
-    Answer::Malformed
-}
-
-// The answer to a line that is not empty.
-fn reply(line: &[u8], bytes: &mut Bytes, lent: &mut Bytes, out: &mut Buffer, at: usize) -> usize {
-    match call(line, bytes, lent, out, at) {
-        Answer::To(end) => end,
-        Answer::Malformed => output::text(b"malformed", out, at),
+    if LONGEST - held < piece.len() {
+        return LONGEST + 1;
     }
+    octets::copy(piece, line, held);
+    held + piece.len()
 }
 
-fn end_line(
+// Answers the line held, if there is one.
+fn answer(
     line: &[u8],
     held: usize,
     bytes: &mut Bytes,
@@ -53,24 +37,15 @@ fn end_line(
 ) -> usize {
     let end = if held == 0 {
         at
-    } else if held <= line.len() {
-        reply(&line[0..held], bytes, lent, out, at)
+    } else if line.len() < held {
+        output::malformed(out, at)
     } else {
-        output::text(b"malformed", out, at)
+        calls::answer(&line[0..held], bytes, lent, out, at)
     };
     output::byte(b'\n', out, end)
 }
 
-// Adds a piece to what is held of a line; one more than the longest line's length stands for a line that is too long.
-fn hold(piece: &[u8], line: &mut [u8], held: usize) -> usize {
-    if line.len() < held || line.len() - held < piece.len() {
-        return LONGEST + 1;
-    }
-    octets::copy(piece, line, held);
-    held + piece.len()
-}
-
-// Answers the lines that end in a piece of the input, and answers how much is held of the one that does not.
+// Answers the lines that end in a piece of the input, and holds what follows them.
 fn lines(
     piece: &[u8],
     before: usize,
@@ -86,7 +61,7 @@ fn lines(
         let end = words::find(piece, start, b'\n');
         held = hold(&piece[start..end], line, held);
         if end < piece.len() {
-            at = end_line(line, held, bytes, lent, out, at);
+            at = answer(line, held, bytes, lent, out, at);
             held = 0;
         }
         start = end + 1;
@@ -95,26 +70,10 @@ fn lines(
     held
 }
 
-// Reads a piece of the input, and answers the lines that end in it.
-fn take(
-    input: &mut Buffer,
-    held: usize,
-    line: &mut Line,
-    bytes: &mut Bytes,
-    lent: &mut Bytes,
-    out: &mut Buffer,
-) -> Turn {
-    let count = io::count(libc::read(STDIN_FILENO, input), input);
-    if count == 0 {
-        return Turn::End;
-    }
-    Turn::Held(lines(words::part(input, 0, count), held, line, bytes, lent, out))
-}
-
-// Answers a last line that no newline ends.
-fn finish(held: usize, line: &Line, bytes: &mut Bytes, lent: &mut Bytes, out: &mut Buffer) {
+// Answers a last line that has no newline.
+fn last(held: usize, line: &Line, bytes: &mut Bytes, lent: &mut Bytes, out: &mut Buffer) {
     if 0 < held {
-        let at = end_line(line, held, bytes, lent, out, 0);
+        let at = answer(line, held, bytes, lent, out, 0);
         output::flush(out, at);
     }
 }
@@ -126,13 +85,21 @@ fn main() {
     let mut lent = [0u8; 131072];
     let mut out = [0u8; 65536];
     let mut held = 0;
-    // A loop has to end, so it counts its turns, of which no input takes as many.
+    // Nothing says that the input ends, so the loop has an end of its own, which no input reaches.
     for _ in 0..u64::MAX {
-        let Turn::Held(now) = take(&mut input, held, &mut line, &mut bytes, &mut lent, &mut out)
-        else {
+        let got = libc::read(STDIN_FILENO, &mut input);
+        let count = io::count(got, &input);
+        if count == 0 {
             break;
-        };
-        held = now;
+        }
+        held = lines(
+            &input[..count],
+            held,
+            &mut line,
+            &mut bytes,
+            &mut lent,
+            &mut out,
+        );
     }
-    finish(held, &line, &mut bytes, &mut lent, &mut out);
+    last(held, &line, &mut bytes, &mut lent, &mut out);
 }

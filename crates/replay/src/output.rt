@@ -41,6 +41,12 @@ pub fn number(n: u64, out: &mut Buffer, at: usize) -> usize {
     text(&digits[..count], out, at)
 }
 
+// A number, and a byte after it.
+pub fn number_then(n: u64, b: u8, out: &mut Buffer, at: usize) -> usize {
+    let end = number(n, out, at);
+    byte(b, out, end)
+}
+
 // Bytes in hex, `-` for none.
 pub fn bytes(s: &[u8], out: &mut Buffer, at: usize) -> usize {
     if s.len() == 0 {
@@ -53,6 +59,16 @@ pub fn bytes(s: &[u8], out: &mut Buffer, at: usize) -> usize {
         i += 1;
     }
     end
+}
+
+// Bytes in hex, and a byte after them.
+pub fn bytes_then(s: &[u8], b: u8, out: &mut Buffer, at: usize) -> usize {
+    let end = bytes(s, out, at);
+    byte(b, out, end)
+}
+
+pub fn malformed(out: &mut Buffer, at: usize) -> usize {
+    text(b"malformed", out, at)
 }
 
 fn pair(b: u8, out: &mut Buffer, at: usize) -> usize {

@@ -47,13 +47,3 @@ pub fn rest(line: &[u8], place: usize) -> &[u8] {
     let from = start(line, place);
     &line[from..]
 }
-
-// The bytes from a place to another.
-pub fn part(s: &[u8], from: usize, end: usize) -> &[u8] {
-    if end <= s.len() {
-        if from <= end {
-            return &s[from..end];
-        }
-    }
-    &s[0..0]
-}

@@ -7,10 +7,10 @@ use Rattle.replay.proofs.values.Number.of_digits.Statement.{statement}
 use Rattle.replay.proofs.values.Number.of_digits.Tie as tie
 
 abbrev Inv-loop : tie.InvT-loop
-Inv-loop word largest n₀ i₀ n i = (i ≤ length word) × (n ≤ largest)
+Inv-loop word largest value₀ i₀ value i = (i ≤ length word) × (value ≤ largest)
 
 abbrev μ-loop : tie.MeasureT-loop
-μ-loop word largest n₀ i₀ n i = length word - i
+μ-loop word largest value₀ i₀ value i = length word - i
 
 sub-if3 : tie.Need-sub-if3 Inv-loop μ-loop
 sub-if3 c = omega (arith, ltb-false)
