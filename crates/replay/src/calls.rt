@@ -19,5 +19,8 @@ pub fn answer(
     if octets::same(kind, b"box") {
         return boxes::read(line, bytes, out, at);
     }
+    if octets::same(kind, b"write") {
+        return boxes::write(line, lent, out, at);
+    }
     output::malformed(out, at)
 }

@@ -60,6 +60,22 @@ impl Number {
     }
 }
 
+// A number from 0 to 255.
+pub struct Byte {
+    pub good: bool,
+    pub value: u8,
+}
+
+impl Byte {
+    pub fn read(word: &[u8]) -> Byte {
+        let n = Number::read(word, 255);
+        Byte {
+            good: n.good,
+            value: n.value as u8,
+        }
+    }
+}
+
 // Bytes in hex, `-` for none, in a buffer: where they end.
 pub struct Place {
     pub good: bool,
