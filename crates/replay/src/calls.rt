@@ -1,4 +1,4 @@
-// The kinds of lines.
+// The kinds of lines, each answered by a function of its own.
 use crate::boxes;
 use crate::output;
 use crate::output::Buffer;

@@ -12,9 +12,9 @@ use output::Buffer;
 // The longest line, without its newline.
 const LONGEST: usize = 262144;
 
-type Line = [u8; 262144];
+type Line = [u8; LONGEST];
 
-// Adds a piece to what is held of a line. Of a line that is too long nothing is held, and its length is one above the longest.
+// Adds a piece to what is held of a line; answers how much is held. A line that is too long counts as one byte over the longest.
 fn hold(piece: &[u8], line: &mut Line, held: usize) -> usize {
     if LONGEST < held {
         return held;
@@ -26,7 +26,7 @@ fn hold(piece: &[u8], line: &mut Line, held: usize) -> usize {
     held + piece.len()
 }
 
-// Answers the line held, if there is one.
+// Answers the line held; an empty line by an empty line.
 fn answer(
     line: &[u8],
     held: usize,
@@ -45,7 +45,7 @@ fn answer(
     output::byte(b'\n', out, end)
 }
 
-// Answers the lines that end in a piece of the input, and holds what follows them.
+// Answers the lines that end in a piece of the input, and holds what follows them; answers how much is held.
 fn lines(
     piece: &[u8],
     before: usize,
@@ -80,7 +80,7 @@ fn last(held: usize, line: &Line, bytes: &mut Bytes, lent: &mut Bytes, out: &mut
 
 fn main() {
     let mut input = [0u8; 65536];
-    let mut line = [0u8; 262144];
+    let mut line = [0u8; LONGEST];
     let mut bytes = [0u8; 131072];
     let mut lent = [0u8; 131072];
     let mut out = [0u8; 65536];

@@ -3,8 +3,10 @@
 ghost use Prim.Native.Nat.{_<_};
 use libc::STDOUT_FILENO;
 
+const ROOM: usize = 65536;
+
 // Text that is still to be written.
-pub type Buffer = [u8; 65536];
+pub type Buffer = [u8; ROOM];
 
 // Writes the text out.
 pub fn flush(out: &[u8], at: usize) {
@@ -15,11 +17,11 @@ pub fn flush(out: &[u8], at: usize) {
 
 // A byte; a full buffer is written out first.
 pub fn byte(b: u8, out: &mut Buffer, at: usize) -> usize {
-    if at < 65536 {
+    if at < ROOM {
         out[at] = b;
         return at + 1;
     }
-    flush(out, 65536);
+    flush(out, ROOM);
     out[0] = b;
     1
 }
