@@ -70,13 +70,13 @@ impl Given {
         let constant_bytes = constant_iv.bytes;
         Given {
             good: code.good
-                & version.good
-                & crypt.good
-                & skip.good
-                & protected.good
-                & iv_size.good
-                & kid.good
-                & constant_iv.good,
+                && version.good
+                && crypt.good
+                && skip.good
+                && protected.good
+                && iv_size.good
+                && kid.good
+                && constant_iv.good,
             parameters: Parameters {
                 code: code_bytes,
                 version: version.value,

@@ -1,4 +1,4 @@
-// What words hold: numbers and byte strings, each with whether it is well formed.
+// What words hold: numbers and byte strings, each with whether it is well formed. An empty word is not.
 ghost use Prim.Native.Nat.{_≤_, _+_, _/_};
 ghost use lib.ListN.{length};
 
