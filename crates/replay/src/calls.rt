@@ -1,4 +1,5 @@
 // The kinds of lines, each answered by a function of its own.
+use crate::auxiliary;
 use crate::boxes;
 use crate::output;
 use crate::output::Buffer;
@@ -21,6 +22,9 @@ pub fn answer(
     }
     if octets::same(kind, b"write") {
         return boxes::write(line, lent, out, at);
+    }
+    if octets::same(kind, b"aux") {
+        return auxiliary::read(line, bytes, out, at);
     }
     output::malformed(out, at)
 }

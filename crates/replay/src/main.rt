@@ -1,4 +1,5 @@
 // Calls of the library, one a line on standard input, each answered by a line on standard output.
+mod auxiliary;
 mod boxes;
 mod calls;
 mod output;
