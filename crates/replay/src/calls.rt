@@ -1,0 +1,30 @@
+// The kinds of lines, each answered by a function of its own.
+use crate::auxiliary;
+use crate::boxes;
+use crate::output;
+use crate::output::Buffer;
+use crate::words;
+
+// As many bytes as a line can hold.
+pub type Bytes = [u8; 131072];
+
+// Answers a line. Its byte strings go to `bytes`, one after the other, and what a call writes goes to `lent`.
+pub fn answer(
+    line: &[u8],
+    bytes: &mut Bytes,
+    lent: &mut Bytes,
+    out: &mut Buffer,
+    at: usize,
+) -> usize {
+    let kind = words::word(line, 0);
+    if octets::same(kind, b"box") {
+        return boxes::read(line, bytes, out, at);
+    }
+    if octets::same(kind, b"write") {
+        return boxes::write(line, lent, out, at);
+    }
+    if octets::same(kind, b"aux") {
+        return auxiliary::read(line, bytes, out, at);
+    }
+    output::malformed(out, at)
+}
