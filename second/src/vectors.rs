@@ -1,6 +1,7 @@
 //! The published vectors, worked out again, and a long chain of blocks under changing keys.
 
-use crate::{aes, hex};
+use crate::track::{self, Parameters};
+use crate::{aes, hex, subsample};
 use std::io::{self, Write};
 
 const KEY: &str = "2b7e151628aed2a6abf7158809cf4f3c";
@@ -26,7 +27,8 @@ fn block(text: &str) -> [u8; 16] {
 pub fn print(out: &mut impl Write) -> io::Result<()> {
     fips_197(out)?;
     sp_800_38a(out)?;
-    chained(out)
+    chained(out)?;
+    samples(out)
 }
 
 fn fips_197(out: &mut impl Write) -> io::Result<()> {
@@ -116,4 +118,44 @@ fn report(
         writeln!(out, "chained {count} {what} {key} {block}")?;
     }
     Ok(())
+}
+
+/// Document 01's samples 8 to 11, which the reader of auxiliary data answers.
+fn samples(out: &mut impl Write) -> io::Result<()> {
+    let box_of = |code: [u8; 4], crypt: u8, skip, iv_size| {
+        let parameters = Parameters {
+            code,
+            version: crypt.min(1),
+            crypt,
+            skip,
+            protected: 1,
+            iv_size,
+            kid: [1; 16],
+            ..Parameters::REFUSED
+        };
+        track::bytes(&parameters).expect("accepted parameters")
+    };
+    let cenc = box_of(*b"cenc", 0, 0, 8);
+    let cbc1 = box_of(*b"cbc1", 0, 0, 16);
+    let cbcs = box_of(*b"cbcs", 1, 9, 0);
+    let read = |code: &[u8], track_box: &[u8], length, aux: &[u8]| {
+        subsample::read(code, track_box, length, aux).map_or_else(|number| number, |_| 0)
+    };
+    let aux = [&[0; 8][..], &[0, 1], &[0; 6]].concat();
+    writeln!(out, "sample 8 empty {}", read(b"cenc", &cenc, 0, &aux))?;
+    let aux = [&[0; 8][..], &[0, 2], &[0, 1, 0, 0, 0, 0], &[0; 6]].concat();
+    writeln!(out, "sample 8 one byte {}", read(b"cenc", &cenc, 1, &aux))?;
+    for length in [32, 31] {
+        let aux = [&[0; 16][..], &[0, 1], &[0, 0, 0, 0, 0, length]].concat();
+        let number = read(b"cbc1", &cbc1, length.into(), &aux);
+        writeln!(out, "sample 9 {length} {number}")?;
+    }
+    for count in [64, 65] {
+        let aux = [vec![0, count], [0, 0, 0, 0, 0, 1].repeat(count.into())].concat();
+        let number = read(b"cbcs", &cbcs, count.into(), &aux);
+        writeln!(out, "sample 10 {count} entries {number}")?;
+    }
+    writeln!(out, "sample 11 short {}", read(b"cenc", &cenc, 0, &[0; 9]))?;
+    let number = read(b"cenx", &cenc[1..], 0, &[]);
+    writeln!(out, "sample 11 scheme and box {number}")
 }

@@ -1,4 +1,5 @@
-// The published vectors of FIPS 197 and SP 800-38A, and chained blocks under changing keys, a line each.
+// The published vectors of FIPS 197 and SP 800-38A, chained blocks under changing keys, and document 01's samples 8 to 11,
+// a line each.
 use aes::Block;
 use aes::Key;
 use aes::RoundKeys;
@@ -159,6 +160,89 @@ fn back_all(text: &[u8], last: Chain) -> Chain {
     c
 }
 
+// A line with the number that reading auxiliary data answers.
+fn sample_line(text: &[u8], code: &[u8], track_box: &[u8], length: usize, auxiliary: &[u8]) {
+    let read = subsample::read(code, track_box, length, auxiliary);
+    print(text);
+    print_number(read.number as usize);
+    print(b"\n");
+}
+
+// Samples 8 and 11, in cenc with IVs of 8 bytes.
+fn cenc_samples(track_box: &[u8]) {
+    sample_line(
+        b"sample 8 empty ",
+        b"cenc",
+        track_box,
+        0,
+        b"\x00\x00\x00\x00\x00\x00\x00\x00\x00\x01\x00\x00\x00\x00\x00\x00",
+    );
+    sample_line(
+        b"sample 8 one byte ",
+        b"cenc",
+        track_box,
+        1,
+        b"\x00\x00\x00\x00\x00\x00\x00\x00\x00\x02\x00\x01\x00\x00\x00\x00\x00\x00\x00\x00\x00\x00",
+    );
+}
+
+// Sample 9, in cbc1.
+fn cbc1_samples(track_box: &[u8]) {
+    sample_line(
+        b"sample 9 32 ",
+        b"cbc1",
+        track_box,
+        32,
+        b"\x00\x00\x00\x00\x00\x00\x00\x00\x00\x00\x00\x00\x00\x00\x00\x00\x00\x01\x00\x00\x00\x00\x00\x20",
+    );
+    sample_line(
+        b"sample 9 31 ",
+        b"cbc1",
+        track_box,
+        31,
+        b"\x00\x00\x00\x00\x00\x00\x00\x00\x00\x00\x00\x00\x00\x00\x00\x00\x00\x01\x00\x00\x00\x00\x00\x1f",
+    );
+}
+
+// The data of `count` entries (0, 1), in cbcs.
+fn unit_entries(count: u16, out: &mut [u8]) {
+    octets::put16(count, out, 0);
+    for i in 0..count as usize {
+        octets::put32(1, out, 6 * i + 4);
+    }
+}
+
+// Sample 10, in cbcs.
+fn cbcs_samples(track_box: &[u8]) {
+    let mut most = [0u8; 386];
+    unit_entries(64, &mut most);
+    sample_line(b"sample 10 64 entries ", b"cbcs", track_box, 64, &most);
+    let mut more = [0u8; 392];
+    unit_entries(65, &mut more);
+    sample_line(b"sample 10 65 entries ", b"cbcs", track_box, 65, &more);
+}
+
+// Document 01's samples 8 to 11.
+fn samples() {
+    let cenc =
+        b"\x00\x00\x00\x20tenc\x00\x00\x00\x00\x00\x00\x01\x08\x01\x01\x01\x01\x01\x01\x01\x01\x01\x01\x01\x01\x01\x01\x01\x01";
+    cenc_samples(cenc);
+    cbc1_samples(
+        b"\x00\x00\x00\x20tenc\x00\x00\x00\x00\x00\x00\x01\x10\x01\x01\x01\x01\x01\x01\x01\x01\x01\x01\x01\x01\x01\x01\x01\x01",
+    );
+    cbcs_samples(
+        b"\x00\x00\x00\x31tenc\x01\x00\x00\x00\x00\x19\x01\x00\x01\x01\x01\x01\x01\x01\x01\x01\x01\x01\x01\x01\x01\x01\x01\x01\x10\x00\x00\x00\x00\x00\x00\x00\x00\x00\x00\x00\x00\x00\x00\x00\x00",
+    );
+    sample_line(
+        b"sample 11 short ",
+        b"cenc",
+        cenc,
+        0,
+        b"\x00\x00\x00\x00\x00\x00\x00\x00\x00",
+    );
+    sample_line(b"sample 11 scheme and box ", b"cenx", b"tenc", 0, b"");
+}
+
 fn main() {
     let keys = key_of(b"\x2b\x7e\x15\x16\x28\xae\xd2\xa6\xab\xf7\x15\x88\x09\xcf\x4f\x3c");
     key_expansion(keys);
@@ -204,4 +288,5 @@ fn main() {
         },
     );
     back_all(b" deciphered ", last);
+    samples();
 }

@@ -1,0 +1,156 @@
+//! Seeded lines for `replay`. The same seed gives the same lines.
+
+mod auxiliary;
+mod boxes;
+
+use crate::hex;
+use crate::track::{self, Parameters};
+use std::io::{self, Write};
+
+/// Prints `count` lines; false if there is no such set.
+pub fn print(set: &str, seed: u64, count: u64, out: &mut impl Write) -> io::Result<bool> {
+    let line: fn(&mut Random, u64) -> String = match set {
+        "box" => boxes::line,
+        "aux" => auxiliary::line,
+        _ => return Ok(false),
+    };
+    let mut random = Random(seed);
+    for n in 0..count {
+        writeln!(out, "{}", line(&mut random, n))?;
+    }
+    Ok(true)
+}
+
+/// SplitMix64.
+struct Random(u64);
+
+impl Random {
+    fn next(&mut self) -> u64 {
+        self.0 = self.0.wrapping_add(0x9e3779b97f4a7c15);
+        let mut z = self.0;
+        z = (z ^ (z >> 30)).wrapping_mul(0xbf58476d1ce4e5b9);
+        z = (z ^ (z >> 27)).wrapping_mul(0x94d049bb133111eb);
+        z ^ (z >> 31)
+    }
+
+    /// From 0 to `limit` - 1.
+    fn below(&mut self, limit: usize) -> usize {
+        (self.next() % limit as u64) as usize
+    }
+
+    /// From `low` to `high`, both included.
+    fn within(&mut self, low: usize, high: usize) -> usize {
+        low + self.below(high - low + 1)
+    }
+
+    /// True once in `times`.
+    fn once_in(&mut self, times: usize) -> bool {
+        self.below(times) == 0
+    }
+
+    fn pick<T: Copy>(&mut self, choices: &[T]) -> T {
+        choices[self.below(choices.len())]
+    }
+
+    fn byte(&mut self) -> u8 {
+        self.next() as u8
+    }
+
+    fn bytes(&mut self, length: usize) -> Vec<u8> {
+        (0..length).map(|_| self.byte()).collect()
+    }
+
+    fn array<const N: usize>(&mut self) -> [u8; N] {
+        std::array::from_fn(|_| self.byte())
+    }
+
+    /// A byte other than `old`, mostly near it or near an edge of some field.
+    fn other_byte(&mut self, old: u8) -> u8 {
+        loop {
+            let new = match self.below(4) {
+                0 => self.pick(&[0, 1, 2, 7, 8, 9, 15, 16, 17, 32, 49, 127, 128, 240, 255]),
+                1 => old ^ 1 << self.below(8),
+                2 => self.pick(&[old.wrapping_add(1), old.wrapping_sub(1)]),
+                _ => self.byte(),
+            };
+            if new != old {
+                return new;
+            }
+        }
+    }
+}
+
+const CODES: [[u8; 4]; 4] = [*b"cenc", *b"cbc1", *b"cens", *b"cbcs"];
+
+/// Every kind of accepted box: code, version, protected flag, IV size. The protected ones come first.
+const KINDS: [(&[u8; 4], u8, u8, u8); 17] = [
+    (b"cenc", 0, 1, 8),
+    (b"cenc", 0, 1, 16),
+    (b"cenc", 1, 1, 8),
+    (b"cenc", 1, 1, 16),
+    (b"cbc1", 0, 1, 16),
+    (b"cbc1", 1, 1, 16),
+    (b"cens", 1, 1, 8),
+    (b"cens", 1, 1, 16),
+    (b"cbcs", 1, 1, 0),
+    (b"cenc", 0, 0, 0),
+    (b"cenc", 1, 0, 0),
+    (b"cbc1", 0, 0, 0),
+    (b"cbc1", 1, 0, 0),
+    (b"cens", 0, 0, 0),
+    (b"cens", 1, 0, 0),
+    (b"cbcs", 0, 0, 0),
+    (b"cbcs", 1, 0, 0),
+];
+
+const PROTECTED_KINDS: usize = 9;
+
+/// Accepted parameters of one kind; pattern, KID and constant IV are random.
+fn parameters(random: &mut Random, kind: usize) -> Parameters {
+    let (code, version, protected, iv_size) = KINDS[kind];
+    let mut parameters = Parameters {
+        code: *code,
+        version,
+        protected,
+        iv_size,
+        kid: random.array(),
+        ..Parameters::REFUSED
+    };
+    if protected == 1 && matches!(code, b"cens" | b"cbcs") {
+        parameters.crypt = random.pick(&[1, 1, 1, 2, 3, 5, 14, 15]);
+        parameters.skip = random.pick(&[0, 0, 1, 1, 2, 9, 9, 14, 15]);
+    }
+    if parameters.has_constant() {
+        parameters.constant = random.array();
+    }
+    if protected == 0 && random.once_in(4) {
+        parameters.kid = [0; 16];
+    }
+    parameters
+}
+
+fn any_parameters(random: &mut Random) -> Parameters {
+    let kind = random.below(KINDS.len());
+    parameters(random, kind)
+}
+
+/// The box of accepted parameters.
+fn box_of(parameters: &Parameters) -> Vec<u8> {
+    track::bytes(parameters).expect("accepted parameters")
+}
+
+/// Corrects the size field of a box.
+fn mend_size(bytes: &mut [u8]) {
+    let length = bytes.len() as u32;
+    if let Some(size) = bytes.get_mut(..4) {
+        size.copy_from_slice(&length.to_be_bytes());
+    }
+}
+
+fn text(bytes: &[u8]) -> String {
+    if bytes.is_empty() {
+        "-".to_string()
+    } else {
+        hex::write(bytes)
+    }
+}

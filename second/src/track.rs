@@ -1,0 +1,200 @@
+//! The track encryption box: its parameters, read and written.
+//!
+//! A refusal is an `Err` with its number in document 01's table.
+
+/// Length of a box without and with a constant IV.
+const SHORT_BOX: usize = 32;
+const LONG_BOX: usize = 49;
+
+#[derive(Clone, Copy, Debug, PartialEq, Eq)]
+pub enum Scheme {
+    Cenc,
+    Cbc1,
+    Cens,
+    Cbcs,
+}
+
+impl Scheme {
+    pub fn named(code: &[u8]) -> Option<Scheme> {
+        match code {
+            b"cenc" => Some(Scheme::Cenc),
+            b"cbc1" => Some(Scheme::Cbc1),
+            b"cens" => Some(Scheme::Cens),
+            b"cbcs" => Some(Scheme::Cbcs),
+            _ => None,
+        }
+    }
+}
+
+/// What a box says, together with the scheme's code. Any values can be held; `check` tells the allowed ones.
+#[derive(Clone, Debug, PartialEq, Eq)]
+pub struct Parameters {
+    pub code: [u8; 4],
+    pub version: u8,
+    pub crypt: u8,
+    pub skip: u8,
+    pub protected: u8,
+    pub iv_size: u8,
+    pub kid: [u8; 16],
+    pub constant: [u8; 16],
+}
+
+impl Parameters {
+    /// What a refused call hands back: an unprotected cenc track in version 0.
+    pub const REFUSED: Parameters = Parameters {
+        code: *b"cenc",
+        version: 0,
+        crypt: 0,
+        skip: 0,
+        protected: 0,
+        iv_size: 0,
+        kid: [0; 16],
+        constant: [0; 16],
+    };
+
+    pub fn is_protected(&self) -> bool {
+        self.protected == 1
+    }
+
+    /// Whether the fields call for a constant IV.
+    pub fn has_constant(&self) -> bool {
+        self.protected == 1 && self.iv_size == 0
+    }
+
+    /// Refusals 1, 3 and 4; the scheme if none applies.
+    pub fn check(&self) -> Result<Scheme, u8> {
+        let scheme = Scheme::named(&self.code).ok_or(1)?;
+        let pattern = (self.crypt, self.skip);
+        if self.version > 1 || self.version == 0 && pattern != (0, 0) {
+            return Err(3);
+        }
+        let allowed = match (self.protected, scheme) {
+            (0, _) => self.iv_size == 0 && pattern == (0, 0),
+            (1, Scheme::Cenc) => matches!(self.iv_size, 8 | 16) && pattern == (0, 0),
+            (1, Scheme::Cbc1) => self.iv_size == 16 && pattern == (0, 0),
+            (1, Scheme::Cens) => matches!(self.iv_size, 8 | 16) && is_pattern(pattern),
+            (1, Scheme::Cbcs) => self.iv_size == 0 && is_pattern(pattern),
+            _ => false,
+        };
+        if !allowed || !self.has_constant() && self.constant != [0; 16] {
+            return Err(4);
+        }
+        Ok(scheme)
+    }
+}
+
+fn is_pattern((crypt, skip): (u8, u8)) -> bool {
+    (1..=15).contains(&crypt) && skip <= 15
+}
+
+/// Reads a box under a scheme's code. Refusals 1 to 4.
+pub fn read(code: &[u8], bytes: &[u8]) -> Result<Parameters, u8> {
+    if Scheme::named(code).is_none() {
+        return Err(1);
+    }
+    if bytes.len() < SHORT_BOX {
+        return Err(2);
+    }
+    let size = u32::from_be_bytes(fixed(&bytes[..4]));
+    if u64::from(size) != bytes.len() as u64 || bytes[4..8] != *b"tenc" {
+        return Err(2);
+    }
+    let (version, flags, zero, pattern) = (bytes[8], &bytes[9..12], bytes[12], bytes[13]);
+    if version > 1 || flags != [0; 3] || zero != 0 || version == 0 && pattern != 0 {
+        return Err(3);
+    }
+    let mut parameters = Parameters {
+        code: fixed(code),
+        version,
+        crypt: pattern >> 4,
+        skip: pattern & 15,
+        protected: bytes[14],
+        iv_size: bytes[15],
+        kid: fixed(&bytes[16..32]),
+        constant: [0; 16],
+    };
+    if parameters.has_constant() {
+        if bytes.len() != LONG_BOX || bytes[32] != 16 {
+            return Err(4);
+        }
+        parameters.constant = fixed(&bytes[33..]);
+    } else if bytes.len() != SHORT_BOX {
+        return Err(4);
+    }
+    parameters.check()?;
+    Ok(parameters)
+}
+
+/// The box of these parameters. Refusals 1, 3 and 4.
+pub fn bytes(parameters: &Parameters) -> Result<Vec<u8>, u8> {
+    parameters.check()?;
+    let mut bytes = b"\0\0\0\0tenc".to_vec();
+    bytes.extend([parameters.version, 0, 0, 0, 0]);
+    bytes.push(parameters.crypt << 4 | parameters.skip);
+    bytes.extend([parameters.protected, parameters.iv_size]);
+    bytes.extend(parameters.kid);
+    if parameters.has_constant() {
+        bytes.push(16);
+        bytes.extend(parameters.constant);
+    }
+    bytes[3] = bytes.len() as u8;
+    Ok(bytes)
+}
+
+/// Writes a box to the beginning of `out` and answers its length. Refusals 1, 3, 4 and 17.
+pub fn write(parameters: &Parameters, out: &mut [u8]) -> Result<usize, u8> {
+    let bytes = bytes(parameters)?;
+    let place = out.get_mut(..bytes.len()).ok_or(17)?;
+    place.copy_from_slice(&bytes);
+    Ok(bytes.len())
+}
+
+fn fixed<const N: usize>(bytes: &[u8]) -> [u8; N] {
+    let mut array = [0; N];
+    array.copy_from_slice(bytes);
+    array
+}
+
+#[cfg(test)]
+mod tests {
+    use super::*;
+
+    /// The box in document 01's example of a sheet.
+    fn example() -> Vec<u8> {
+        let mut bytes = b"\0\0\0\x31tenc\x01\0\0\0\0\x19\x01\0".to_vec();
+        bytes.extend(0..16);
+        bytes.push(16);
+        bytes.extend([0xaa; 16]);
+        bytes
+    }
+
+    #[test]
+    fn example_is_read_and_written() {
+        let parameters = read(b"cbcs", &example()).unwrap();
+        assert_eq!((parameters.crypt, parameters.skip), (1, 9));
+        assert_eq!(parameters.constant, [0xaa; 16]);
+        let mut out = [7; 50];
+        assert_eq!(write(&parameters, &mut out), Ok(49));
+        assert_eq!(out[..49], example());
+        assert_eq!(out[49], 7);
+        assert_eq!(write(&parameters, &mut out[..48]), Err(17));
+    }
+
+    #[test]
+    fn refusals() {
+        let changed = |place: usize, value| {
+            let mut bytes = example();
+            bytes[place] = value;
+            read(b"cbcs", &bytes).unwrap_err()
+        };
+        assert_eq!(read(b"cbc", &[]), Err(1));
+        assert_eq!(read(b"cens", &example()), Err(4));
+        assert_eq!(changed(3, 0x32), 2);
+        assert_eq!(changed(7, b'C'), 2);
+        assert_eq!(changed(8, 0), 3);
+        assert_eq!(changed(12, 1), 3);
+        assert_eq!(changed(13, 0x09), 4);
+        assert_eq!(changed(14, 2), 4);
+        assert_eq!(changed(32, 15), 4);
+    }
+}
