@@ -11,7 +11,7 @@ use Rattle.octets.specs.Xor.{_⊕_}
 use Rattle.octets.proofs.Xor.{⊕-below}
 use Rattle.fips197.specs.Field.{_·_}
 use Rattle.fips197.specs.State.{Word, State, byte, column, four, load, store}
-use Rattle.fips197.specs.Cipher.{subByte, subWord, subBytes, shiftRows, row, matrix, mixColumns, addWord, addRoundKey}
+use Rattle.fips197.specs.Cipher.{subByte, subBytes, shiftRows, row, matrix, mixColumns, addWord, addRoundKey}
 use Rattle.fips197.specs.KeyExpansion.{rotWord, rcon, roundKey, keyExpansion}
 use Rattle.fips197.specs.InvCipher.{invSubByte, invSubBytes, invShiftRows, invMixColumns}
 use Rattle.fips197.proofs.Field.{xtime-below, ·-below}

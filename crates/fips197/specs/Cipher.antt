@@ -1,5 +1,5 @@
 -- FIPS 197, section 5.1: the steps of a round, and the cipher.
-use mathlib.Core.List.{List, [], _∷_}
+use mathlib.Core.List.{List, []}
 use Prim.Native.Nat.{ℕ, zero, suc, _+_, _*_, _/_, _%_, _^_}
 use lib.ListN.{getD}
 use Rattle.octets.specs.Xor.{_⊕_}

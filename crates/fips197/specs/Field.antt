@@ -1,6 +1,6 @@
 -- FIPS 197, section 4: bytes as elements of the field GF(2^8). A byte is a number below 256.
 -- 4.1: addition is exclusive or, ⊕.
-use Prim.Native.Nat.{ℕ, zero, suc, _+_, _*_, _/_, _%_}
+use Prim.Native.Nat.{ℕ, zero, suc, _*_, _/_, _%_}
 use Rattle.octets.specs.Xor.{_⊕_}
 
 infixl 75 _·_

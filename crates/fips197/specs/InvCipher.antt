@@ -1,8 +1,7 @@
 -- FIPS 197, section 5.3: the inverse cipher.
 use mathlib.Core.List.{List, []}
-use Prim.Native.Nat.{ℕ, zero, suc, _+_, _-_, _*_, _%_}
+use Prim.Native.Nat.{ℕ, zero, suc, _+_, _-_, _%_}
 use lib.ListN.{getD}
-use Rattle.octets.specs.Xor.{_⊕_}
 use Rattle.fips197.specs.Field.{inverse}
 use Rattle.fips197.specs.State.{Word, State, byte, column, cell, four}
 use Rattle.fips197.specs.Cipher.{bit, ofBits, matrix, addRoundKey}

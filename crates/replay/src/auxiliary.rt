@@ -34,7 +34,7 @@ fn entries(map: SubsampleMap, out: &mut Buffer, at: usize) -> usize {
 }
 
 // `COUNT ENTRIES`.
-pub fn map(map: SubsampleMap, out: &mut Buffer, at: usize) -> usize {
+pub(crate) fn map(map: SubsampleMap, out: &mut Buffer, at: usize) -> usize {
     let at = output::number_then(map.count as u64, b' ', out, at);
     if map.count == 0 {
         output::byte(b'-', out, at)
@@ -44,7 +44,7 @@ pub fn map(map: SubsampleMap, out: &mut Buffer, at: usize) -> usize {
 }
 
 // `aux CODE BOX LENGTH AUX`, answered `NUMBER COUNT ENTRIES IV`.
-pub fn read(line: &[u8], bytes: &mut Bytes, out: &mut Buffer, at: usize) -> usize {
+pub(crate) fn read(line: &[u8], bytes: &mut Bytes, out: &mut Buffer, at: usize) -> usize {
     let code = Place::read(words::word(line, 1), bytes, 0);
     let track_box = Place::read(words::word(line, 2), bytes, code.end);
     let length = Number::read(words::word(line, 3), u64::MAX);

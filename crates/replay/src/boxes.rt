@@ -15,7 +15,7 @@ use track::Parameters;
 use track::StartVector;
 
 // `CODE VERSION CRYPT:SKIP PROTECTED IVSIZE KID CONSTANT`.
-pub fn parameters(p: Parameters, out: &mut Buffer, at: usize) -> usize {
+pub(crate) fn parameters(p: Parameters, out: &mut Buffer, at: usize) -> usize {
     let code = p.code;
     let kid = p.kid;
     let constant_iv = p.constant_iv;
@@ -30,7 +30,7 @@ pub fn parameters(p: Parameters, out: &mut Buffer, at: usize) -> usize {
 }
 
 // `box CODE BOX`, answered `NUMBER PARAMS`.
-pub fn read(line: &[u8], bytes: &mut Bytes, out: &mut Buffer, at: usize) -> usize {
+pub(crate) fn read(line: &[u8], bytes: &mut Bytes, out: &mut Buffer, at: usize) -> usize {
     let code = Place::read(words::word(line, 1), bytes, 0);
     let track_box = Place::read(words::rest(line, 2), bytes, code.end);
     if code.good && track_box.good {
@@ -92,7 +92,7 @@ impl Given {
 }
 
 // `write CODE VERSION CRYPT SKIP PROTECTED IVSIZE KID CONSTANT ROOM`, answered `NUMBER BYTES`.
-pub fn write(line: &[u8], lent: &mut [u8], out: &mut Buffer, at: usize) -> usize
+pub(crate) fn write(line: &[u8], lent: &mut [u8], out: &mut Buffer, at: usize) -> usize
     requires { ⌜ 65536 ≤ length (now lent) ⌝ }
 {
     let given = Given::read(line);

@@ -9,7 +9,7 @@ use crate::words;
 pub type Bytes = [u8; 131072];
 
 // Answers a line. Its byte strings go to `bytes`, one after the other, and what a call writes goes to `lent`.
-pub fn answer(
+pub(crate) fn answer(
     line: &[u8],
     bytes: &mut Bytes,
     lent: &mut Bytes,

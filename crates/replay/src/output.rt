@@ -9,14 +9,14 @@ const ROOM: usize = 65536;
 pub type Buffer = [u8; ROOM];
 
 // Writes the text out.
-pub fn flush(out: &[u8], at: usize) {
+pub(crate) fn flush(out: &[u8], at: usize) {
     if at <= out.len() {
         io::write_all(STDOUT_FILENO, &out[0..at]);
     }
 }
 
 // A byte; a full buffer is written out first.
-pub fn byte(b: u8, out: &mut Buffer, at: usize) -> usize {
+pub(crate) fn byte(b: u8, out: &mut Buffer, at: usize) -> usize {
     if at < ROOM {
         out[at] = b;
         return at + 1;
@@ -26,7 +26,7 @@ pub fn byte(b: u8, out: &mut Buffer, at: usize) -> usize {
     1
 }
 
-pub fn text(s: &[u8], out: &mut Buffer, at: usize) -> usize {
+pub(crate) fn text(s: &[u8], out: &mut Buffer, at: usize) -> usize {
     let mut end = at;
     let mut i = 0;
     while i < s.len() {
@@ -37,20 +37,20 @@ pub fn text(s: &[u8], out: &mut Buffer, at: usize) -> usize {
 }
 
 // A number in decimal.
-pub fn number(n: u64, out: &mut Buffer, at: usize) -> usize {
+pub(crate) fn number(n: u64, out: &mut Buffer, at: usize) -> usize {
     let mut digits = [0u8; 20];
     let count = io::decimal(n, &mut digits);
     text(&digits[..count], out, at)
 }
 
 // A number, and a byte after it.
-pub fn number_then(n: u64, b: u8, out: &mut Buffer, at: usize) -> usize {
+pub(crate) fn number_then(n: u64, b: u8, out: &mut Buffer, at: usize) -> usize {
     let end = number(n, out, at);
     byte(b, out, end)
 }
 
 // Bytes in hex, `-` for none.
-pub fn bytes(s: &[u8], out: &mut Buffer, at: usize) -> usize {
+pub(crate) fn bytes(s: &[u8], out: &mut Buffer, at: usize) -> usize {
     if s.len() == 0 {
         return byte(b'-', out, at);
     }
@@ -64,12 +64,12 @@ pub fn bytes(s: &[u8], out: &mut Buffer, at: usize) -> usize {
 }
 
 // Bytes in hex, and a byte after them.
-pub fn bytes_then(s: &[u8], b: u8, out: &mut Buffer, at: usize) -> usize {
+pub(crate) fn bytes_then(s: &[u8], b: u8, out: &mut Buffer, at: usize) -> usize {
     let end = bytes(s, out, at);
     byte(b, out, end)
 }
 
-pub fn malformed(out: &mut Buffer, at: usize) -> usize {
+pub(crate) fn malformed(out: &mut Buffer, at: usize) -> usize {
     text(b"malformed", out, at)
 }
 

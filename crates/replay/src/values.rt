@@ -26,7 +26,7 @@ impl Number {
     };
 
     // A number from 0 to `largest`.
-    pub fn read(word: &[u8], largest: u64) -> Number
+    pub(crate) fn read(word: &[u8], largest: u64) -> Number
         ensures { λ r. ⌜ r .value ≤ largest ⌝ }
     {
         if word.len() == 0 {
@@ -67,7 +67,7 @@ pub struct Byte {
 }
 
 impl Byte {
-    pub fn read(word: &[u8]) -> Byte {
+    pub(crate) fn read(word: &[u8]) -> Byte {
         let n = Number::read(word, 255);
         Byte {
             good: n.good,
@@ -84,7 +84,7 @@ pub struct Place {
 
 impl Place {
     // Puts the bytes into a buffer from a place on.
-    pub fn read(word: &[u8], out: &mut [u8], at: usize) -> Place
+    pub(crate) fn read(word: &[u8], out: &mut [u8], at: usize) -> Place
         requires { ⌜ at ≤ length (now out) ⌝ }
         ensures { λ r. ⌜ (at ≤ r .end) × (r .end ≤ length (now (out .entry))) ⌝ }
     {
@@ -134,7 +134,7 @@ pub struct Four {
 }
 
 impl Four {
-    pub fn read(word: &[u8]) -> Four {
+    pub(crate) fn read(word: &[u8]) -> Four {
         let mut bytes = [0u8; 4];
         let good = word.len() == 8 && pairs(word, &mut bytes, 0);
         Four { good, bytes }
@@ -148,7 +148,7 @@ pub struct Sixteen {
 }
 
 impl Sixteen {
-    pub fn read(word: &[u8]) -> Sixteen {
+    pub(crate) fn read(word: &[u8]) -> Sixteen {
         let mut bytes = [0u8; 16];
         let good = word.len() == 32 && pairs(word, &mut bytes, 0);
         Sixteen { good, bytes }

@@ -3,7 +3,7 @@ ghost use Prim.Native.Nat.{_≤_};
 ghost use lib.ListN.{length};
 
 // The place of the first such byte from a place on, the length where there is none.
-pub fn find(s: &[u8], from: usize, byte: u8) -> usize
+pub(crate) fn find(s: &[u8], from: usize, byte: u8) -> usize
     requires { ⌜ from ≤ length (now s) ⌝ }
     ensures { λ r. ⌜ (from ≤ r) × (r ≤ length (now (s .entry))) ⌝ }
 {
@@ -36,14 +36,14 @@ fn start(line: &[u8], word: usize) -> usize
 }
 
 // A word of a line, counted from 0.
-pub fn word(line: &[u8], place: usize) -> &[u8] {
+pub(crate) fn word(line: &[u8], place: usize) -> &[u8] {
     let from = start(line, place);
     let end = find(line, from, b' ');
     &line[from..end]
 }
 
 // The line from a word on: the last word, if there are no more.
-pub fn rest(line: &[u8], place: usize) -> &[u8] {
+pub(crate) fn rest(line: &[u8], place: usize) -> &[u8] {
     let from = start(line, place);
     &line[from..]
 }

@@ -6,7 +6,7 @@ use lib.ListN.{replicate}
 use Rattle.octets.specs.Answers.{answer}
 use Rattle.octets.specs.Bytes.{same, number, filled}
 use Rattle.track.specs.Track.{known, allowedProtected, allowedFields, allowed, fields, badFrame, badHead, badFields, readRows, readBox}
-use Rattle.sheet.specs.Ascii.{ascii}
+use Rattle.octets.specs.Ascii.{ascii}
 use Rattle.sheet.specs.Sheet.{decimal, hex, refused, patternLine, constantLine, sheet, told, lines}
 
 -- 00 to 0f

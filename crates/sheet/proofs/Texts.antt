@@ -11,7 +11,7 @@ use borrow.Author.Tests.{lt-ltb, le-ltb}
 use Rattle.octets.specs.Bytes.{placed}
 use Rattle.octets.proofs.Fill.{take-next}
 use Rattle.octets.proofs.Bytes.{placed-fits}
-use Rattle.sheet.specs.Ascii.{ascii}
+use Rattle.octets.specs.Ascii.{ascii}
 use Rattle.sheet.specs.Sheet.{digit, decimal, hex, line, patternLine, constantLine, Put}
 
 -- ---- Numbers and bytes.

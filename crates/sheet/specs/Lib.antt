@@ -1,2 +1,1 @@
-pub mod Ascii
 pub mod Sheet

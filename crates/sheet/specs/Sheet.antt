@@ -5,7 +5,7 @@ use mathlib.Core.Path.{_≡_}
 use Prim.Native.Nat.{ℕ, _+_, _/_, _%_, _≤_}
 use lib.Dec.{eqb, ltb}
 use lib.ListN.{length, getD, take, drop}
-use Rattle.sheet.specs.Ascii.{ascii}
+use Rattle.octets.specs.Ascii.{ascii}
 use Rattle.track.specs.Track.{known, hasConstant, readBox}
 use Rattle.track.specs.declared.Parameters.{Parameters}
 use Rattle.track.specs.declared.BoxRead.{BoxRead}

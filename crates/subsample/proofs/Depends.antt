@@ -1,5 +1,5 @@
 -- What the numbers depend on, and that accepted lengths add up.
-use mathlib.Core.Bool.{Bool, true, false, cond, not, _&&_, _||_}
+use mathlib.Core.Bool.{Bool, true, false}
 use mathlib.Core.List.{List, _∷_, _++_}
 use mathlib.Core.Path.{_≡_, refl, sym, ap, ap₂, _∙_}
 use Prim.Native.Nat.{ℕ, zero, suc, _+_, _*_, _≤_, _<_}
@@ -8,13 +8,13 @@ use lib.Dec.{eqb, ltb}
 use lib.ListN.{length, getD}
 use borrow.Author.Tests.{eqb-true, eqb-false, lt-ltb, not-false}
 use Rattle.octets.specs.Answers.{answer}
-use Rattle.octets.specs.Bytes.{listOf, number, filled}
+use Rattle.octets.specs.Bytes.{listOf, number}
 use Rattle.octets.proofs.Answers.{done-head, done-tail, join-done, join-refused}
 use Rattle.track.specs.declared.Parameters.{Parameters}
 use Rattle.track.specs.Track.{fields, readRows}
 use Rattle.track.proofs.Codes.{or-false-left, or-false-right}
 use Rattle.track.proofs.Depends.{Alike, read-alike}
-use Rattle.subsample.specs.Auxiliary.{limit, sum, entryLength, written, countWritten, badSize, entryCount, mapRead, mapRows, auxiliaryRows}
+use Rattle.subsample.specs.Auxiliary.{sum, entryLength, written, countWritten, badSize, entryCount, mapRead, mapRows, auxiliaryRows}
 use Rattle.subsample.proofs.Tables.{read-refusals}
 
 -- Parameters that differ at most in version, pattern, KID and constant IV, and data that differ at most in the IV's bytes.

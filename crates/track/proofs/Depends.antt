@@ -1,17 +1,16 @@
 -- What the numbers depend on: not on the KID, and not on IV bytes but for those of a constant IV where none is called for.
-use mathlib.Core.Bool.{Bool, true, false, cond, not, _&&_, _||_}
+use mathlib.Core.Bool.{Bool, true, false, cond, _||_}
 use mathlib.Core.List.{List}
-use mathlib.Core.Path.{_≡_, refl, sym, ap, ap₂, _∙_}
+use mathlib.Core.Path.{_≡_, refl, sym, ap₂, _∙_}
 use Prim.Native.Nat.{ℕ, zero, suc, _+_, _*_, _/_, _%_, _≤_, _<_}
 use native.Mathlib.Omega.{arith}
-use lib.Dec.{eqb, ltb}
 use lib.ListN.{length, getD, take, drop, length-take, length-drop}
 use lib.Seq.{ext-getD, getD-take, getD-drop}
 use Rattle.octets.specs.Answers.{answer}
 use Rattle.octets.specs.Bytes.{same, number, filled}
 use Rattle.octets.proofs.Bytes.{same-true}
 use Rattle.track.specs.declared.Parameters.{Parameters}
-use Rattle.track.specs.Track.{tenc, zeros, known, hasConstant, allowedFields, allowed, badVersion, boxLength, fields, badFrame, badHead, badFields, readRows, writeRows}
+use Rattle.track.specs.Track.{zeros, hasConstant, allowedFields, allowed, fields, badFrame, badHead, badFields, readRows, writeRows}
 
 -- Where none is called for the reader sets the constant IV to zero.
 constant-zero : (t : Bool) (x : List ℕ) → (t || same (cond t x zeros) zeros) ≡ true

@@ -1,6 +1,6 @@
 -- Reading what was written gives the parameters again, and writing what was read gives the bytes.
 use mathlib.Core.Bool.{Bool, true, false, cond, not, _&&_, _||_}
-use mathlib.Core.List.{List, [], _∷_, _++_, append-nil}
+use mathlib.Core.List.{List, [], _∷_, _++_}
 use mathlib.Core.Path.{_≡_, refl, sym, ap, ap₂, _∙_}
 use Prim.Native.Nat.{ℕ, _+_, _*_, _/_, _%_, _≤_, _<_}
 use native.Mathlib.Nat.{le-of-eq}
@@ -10,7 +10,7 @@ use lib.ListN.{length, getD, take, drop, length-drop, length-append, take-append
 use lib.Seq.{drop-cons, drop-drop, drop-append-add, take-at, getD-at}
 use borrow.Author.Tests.{eqb-true, not-false, ltb-false, le-ltb, eq-eqb}
 use Rattle.octets.specs.Answers.{row, answer}
-use Rattle.octets.specs.Bytes.{same, number, digits, filled, listOf}
+use Rattle.octets.specs.Bytes.{same, number, digits, filled}
 use Rattle.octets.proofs.Answers.{done-head, done-tail}
 use Rattle.octets.proofs.Bytes.{&&-left, same-equal, same-true, digits-number, part-listOf, filled-long, filled-all}
 use Rattle.track.specs.declared.Parameters.{Parameters}

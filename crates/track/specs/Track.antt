@@ -1,30 +1,31 @@
 -- Document 01, "The track box": the four scheme codes, the parameters that are allowed, the box read and written.
-use mathlib.Core.Bool.{Bool, true, false, cond, not, _&&_, _||_}
+use mathlib.Core.Bool.{Bool, cond, not, _&&_, _||_}
 use mathlib.Core.List.{List, [], _∷_, _++_}
 use Prim.Native.Nat.{ℕ, _+_, _*_, _/_, _%_}
 use lib.Dec.{eqb, leb, ltb}
 use lib.ListN.{length, getD, take, drop, replicate}
 use Rattle.octets.specs.Answers.{Row, row, answer}
+use Rattle.octets.specs.Ascii.{ascii}
 use Rattle.octets.specs.Bytes.{same, number, digits, filled}
 use Rattle.track.specs.declared.Parameters.{Parameters}
 use Rattle.track.specs.declared.BoxRead.{BoxRead}
 use Rattle.track.specs.declared.BoxWritten.{BoxWritten}
 
--- The scheme codes and the box type, in ASCII.
+-- The scheme codes and the box type.
 abbrev pub cenc : List ℕ
-cenc = 0x63 ∷ 0x65 ∷ 0x6e ∷ 0x63 ∷ []
+cenc = ascii "cenc"
 
 abbrev pub cbc1 : List ℕ
-cbc1 = 0x63 ∷ 0x62 ∷ 0x63 ∷ 0x31 ∷ []
+cbc1 = ascii "cbc1"
 
 abbrev pub cens : List ℕ
-cens = 0x63 ∷ 0x65 ∷ 0x6e ∷ 0x73 ∷ []
+cens = ascii "cens"
 
 abbrev pub cbcs : List ℕ
-cbcs = 0x63 ∷ 0x62 ∷ 0x63 ∷ 0x73 ∷ []
+cbcs = ascii "cbcs"
 
 abbrev pub tenc : List ℕ
-tenc = 0x74 ∷ 0x65 ∷ 0x6e ∷ 0x63 ∷ []
+tenc = ascii "tenc"
 
 abbrev pub zeros : List ℕ
 zeros = replicate 16 0

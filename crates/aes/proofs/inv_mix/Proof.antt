@@ -1,4 +1,3 @@
-use mathlib.Core.Path.{ap, _∙_}
 use Rattle.octets.specs.Xor.{_⊕_}
 use Rattle.fips197.proofs.Field.{inv-mix-row}
 use borrow.Author.Needs.{needs}

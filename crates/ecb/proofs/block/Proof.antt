@@ -1,5 +1,4 @@
 use mathlib.Core.Path.{_≡_, sym, ap, _∙_}
-use lib.ListN.{length}
 use Rattle.octets.specs.Bytes.{placed}
 use Rattle.octets.proofs.Bytes.{filled-all, placed-whole}
 use Rattle.ecb.specs.Ecb.{blockFunction}

@@ -1,6 +1,6 @@
 use mathlib.Core.Path.{ap}
 use lib.ListN.{length}
-use Rattle.sheet.specs.Ascii.{ascii}
+use Rattle.octets.specs.Ascii.{ascii}
 use Rattle.sheet.specs.Sheet.{line}
 use Rattle.sheet.proofs.Texts.{constant-some, constant-none}
 use borrow.Author.Needs.{needs}

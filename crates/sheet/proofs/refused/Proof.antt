@@ -1,4 +1,4 @@
-use Rattle.sheet.specs.Ascii.{ascii}
+use Rattle.octets.specs.Ascii.{ascii}
 use Rattle.sheet.specs.Sheet.{refused}
 use Rattle.sheet.proofs.Texts.{number-bound}
 use borrow.Author.Needs.{needs}

@@ -1,7 +1,7 @@
 use mathlib.Core.Path.{_≡_, sym}
 use Prim.Native.Nat.{_+_, _≤_}
 use lib.ListN.{length}
-use Rattle.sheet.specs.Ascii.{ascii}
+use Rattle.octets.specs.Ascii.{ascii}
 use Rattle.sheet.specs.Sheet as spec
 use Rattle.sheet.proofs.Texts.{line-length, number-bound, pattern-bound, constant-bound, put-then}
 use borrow.Author.Needs.{needs}

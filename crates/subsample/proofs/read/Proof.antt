@@ -1,5 +1,4 @@
-use mathlib.Core.Path.{_≡_, sym, ap, _∙_}
-use Rattle.track.specs.Track.{readBox}
+use mathlib.Core.Path.{sym, ap, _∙_}
 use Rattle.track.specs.declared.BoxRead.{BoxRead}
 use Rattle.subsample.specs.Auxiliary.{readUnder}
 use Rattle.subsample.proofs.Tables.{box-refused, box-accepted, box-number}

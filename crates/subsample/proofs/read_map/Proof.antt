@@ -1,4 +1,3 @@
-use mathlib.Core.Path.{sym, ap, _∙_}
 use Rattle.subsample.specs.Auxiliary.{mapRead}
 use borrow.Author.Needs.{needs}
 use Rattle.subsample.proofs.read_map.Statement.{statement}

@@ -1,4 +1,3 @@
-use mathlib.Core.Path.{ap}
 use borrow.Author.Needs.{needs}
 use Rattle.subsample.proofs.refused.Statement.{statement}
 use Rattle.subsample.proofs.refused.Tie as tie

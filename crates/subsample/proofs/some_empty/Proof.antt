@@ -1,8 +1,8 @@
 use mathlib.Core.Bool.{false}
-use mathlib.Core.Path.{_≡_, refl, sym, ap, _∙_}
+use mathlib.Core.Path.{_≡_, refl}
 use Prim.Native.Nat.{_≤_, _-_}
 use Rattle.subsample.specs.Auxiliary.{some, emptyEntry}
-use Rattle.subsample.proofs.Counting.{some-next, some-at}
+use Rattle.subsample.proofs.Counting.{found, none-yet, none-at-all}
 use borrow.Author.Needs.{needs}
 use native.Mathlib.Omega.{arith}
 use Rattle.subsample.proofs.some_empty.Statement.{statement}
@@ -19,16 +19,13 @@ unfolding some
 loop-holds c = (omega arith, refl)
 
 returns : tie.Need-returns Inv-loop μ-loop
-returns c = sym (some-at (emptyEntry (c .before .before .before .before .args .map)) (c .before .before .before .before .args .map .count) (c .before .before .before .loop .i) (omega arith) (sym (c .before .empty-entry .ensures) ∙ c .if1 .taken))
+returns c = found _ _ _ _ (c .before .empty-entry .ensures) (c .before .before .loop-test .taken) (c .if1 .taken)
 
 loop-again : tie.Need-loop-again Inv-loop μ-loop
-loop-again c =
-    (omega arith, rw (some-next (emptyEntry (c .before .before .before .before .args .map)) (c .before .before .before .loop .i), c .before .before .before .loop .inv .1) (sym (c .before .empty-entry .ensures) ∙ c .if1 .left))
+loop-again c = (omega arith, none-yet _ (c .before .before .before .before .args .map .count) _ _ (c .before .empty-entry .ensures) (c .before .before .before .loop .inv .1) (c .if1 .left))
 
 returns-2 : tie.Need-returns-2 Inv-loop μ-loop
-returns-2 c =
-    let e : c .before .loop .i ≡ c .before .before .args .map .count = omega arith in
-    sym (rw e at (c .before .loop .inv .1))
+returns-2 c = none-at-all _ _ _ (c .before .loop .inv .0) (c .loop-test .left) (c .before .loop .inv .1)
 
 pub some-empty-spec : {M : Type 1} → statement M
 some-empty-spec =

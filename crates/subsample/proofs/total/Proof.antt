@@ -1,4 +1,4 @@
-use mathlib.Core.Path.{_≡_, refl, sym, ap, _∙_}
+use mathlib.Core.Path.{_≡_, refl, sym}
 use Prim.Native.Nat.{_≤_, _-_, _*_}
 use Rattle.subsample.specs.Auxiliary.{sum, entryLength}
 use Rattle.subsample.proofs.Counting.{sum-next}

@@ -1,4 +1,4 @@
-use mathlib.Core.Path.{sym, ap, _∙_}
+use mathlib.Core.Path.{sym, _∙_}
 use Rattle.track.specs.Track.{badHead}
 use borrow.Author.Needs.{needs}
 use Rattle.track.proofs.bad_head.Statement.{statement}

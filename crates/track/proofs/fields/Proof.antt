@@ -1,4 +1,3 @@
-use mathlib.Core.Path.{sym, ap, _∙_}
 use Rattle.octets.proofs.Bytes.{filled-all}
 use Rattle.track.specs.Track.{fields}
 use Rattle.track.proofs.Codes.{known-length}

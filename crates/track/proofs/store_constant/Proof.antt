@@ -1,5 +1,3 @@
-use mathlib.Core.Path.{_≡_, sym, ap, _∙_}
-use Rattle.octets.specs.Bytes.{placed}
 use borrow.Author.Needs.{needs}
 use Rattle.track.proofs.store_constant.Statement.{statement}
 use Rattle.track.proofs.store_constant.Tie as tie

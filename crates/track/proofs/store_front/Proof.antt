@@ -1,4 +1,3 @@
-use mathlib.Core.Path.{_≡_, sym, ap, _∙_}
 use borrow.Author.Needs.{needs}
 use Rattle.track.proofs.store_front.Statement.{statement}
 use Rattle.track.proofs.store_front.Tie as tie
