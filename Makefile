@@ -2,19 +2,16 @@
 # make demo   builds, and shows the main job
 # make bench  measures, and prints the figures of docs/PERFORMANCE.md
 
-SECOND = target/second/release/second
-
-.PHONY: test demo bench second
+.PHONY: test demo bench
 
 test:
 	@tests/run
 
 demo:
-	@rt check vectors >target/demo.log 2>&1 || { cat target/demo.log; exit 1; }
-	@target/bin/vectors | sed -n '45,52p;$$p'
-
-second:
-	@cargo build --quiet --release --offline --manifest-path second/Cargo.toml --target-dir target/second
+	@mkdir -p target
+	@rt check vectors sheet >target/demo.log 2>&1 || { cat target/demo.log; exit 1; }
+	@target/bin/vectors | sed -n '45,48p'
+	@target/bin/sheet <crates/sheet/stdin
 
 bench:
 	@bench/run

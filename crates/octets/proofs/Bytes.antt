@@ -7,8 +7,8 @@ use native.Mathlib.Nat.{pow-suc, pow-le-pow-right}
 use native.Mathlib.Numerals.{add-one}
 use native.Mathlib.Omega.{arith}
 use lib.Dec.{eqb, lit<}
-use lib.ListN.{length, getD, take, drop, replicate, length-drop, drop-of-length-le, List·getD-eq-default}
-use lib.Seq.{take-suc, getD-drop, paste, take-length, take-all, take-append-le, take-append-add}
+use lib.ListN.{length, getD, take, drop, replicate, length-append, length-drop, drop-of-length-le, List·getD-append, List·getD-eq-default}
+use lib.Seq.{take-suc, getD-drop, getD-at, getD-append-add, paste, take-length, take-all, take-append-le, take-append-add}
 use borrow.Author.Tests.{eq-eqb, eqb-true, le-leb, lt-leb}
 use Rattle.octets.specs.Bytes.{listOf, same, number, digits, placed, filled}
 
@@ -67,6 +67,37 @@ pub number-room : (n : ℕ) (s : List ℕ) (at : ℕ) → ((i : ℕ) → getD s 
 number-room n s at h l =
     let p : 256 ^ n ≤ 256 ^ 7 = pow-le-pow-right (lit< tt) {i = n} {j = 7} (omega arith) in
     omega (arith, number-below n s at h)
+
+pub length-digits : (n v : ℕ) → length (digits n v) ≡ n
+unfolding digits
+length-digits zero v = refl
+length-digits (suc n) v = length-append (digits n (v / 256)) (v % 256 ∷ []) ∙ rw (length-digits n (v / 256)) (omega arith)
+
+number-prefix : (n : ℕ) (s t : List ℕ) → n ≤ length s → number n (s ++ t) 0 ≡ number n s 0
+unfolding number
+number-prefix zero s t h = refl
+number-prefix (suc n) s t h = rw (number-prefix n s t (omega arith), List·getD-append s t 0 (0 + n) (omega arith))
+
+-- the number of a number's bytes
+pub number-digits : (n v : ℕ) → v < 256 ^ n → number n (digits n v) 0 ≡ v
+unfolding number digits
+number-digits zero v h = omega arith
+number-digits (suc n) v h =
+    let d = digits n (v / 256) in
+    let k : 256 ^ suc n ≡ 256 ^ n * 256 = pow-suc 256 n in
+    let e : length d ≡ n = length-digits n (v / 256) in
+    let z : 0 + n ≡ n = omega arith in
+    rw (number-prefix n d (v % 256 ∷ []) (omega arith), number-digits n (v / 256) (omega arith), z, getD-at d (v % 256) [] 0 n e)
+    (omega arith)
+
+-- the number after a prefix
+pub number-after : (n : ℕ) (p s : List ℕ) (at : ℕ) → length p ≡ at → number n (p ++ s) at ≡ number n s 0
+unfolding number
+number-after zero p s at e = refl
+number-after (suc n) p s at e =
+    let z : 0 + n ≡ n = omega arith in
+    let g : getD (p ++ s) (at + n) 0 ≡ getD s n 0 = rw (← e) (getD-append-add p s n 0) in
+    rw (number-after n p s at e, g, z)
 
 -- the bytes of the number at a place are the bytes there
 pub digits-number : (n : ℕ) (s : List ℕ) (at : ℕ) → ((i : ℕ) → getD s i 0 < 256) → at + n ≤ length s

@@ -1,0 +1,4 @@
+pub mod Counter
+pub mod Strings
+pub mod Streamed
+pub mod Chained

@@ -1,0 +1,110 @@
+use mathlib.Core.List.{List}
+use mathlib.Core.Path.{_≡_, sym, ap, _∙_}
+use Prim.Native.Nat.{ℕ, _+_, _-_, _*_, _/_, _%_}
+use lib.ListN.{length, getD, take, drop}
+use lib.Seq.{take-all}
+use borrow.Rule.Slice.PartMut.{putMid}
+use mir.Syntax.{w8}
+use mir.Val.{Fits}
+use Rattle.aes.specs.Block.{encipher}
+use Rattle.octets.proofs.Fill.{Filled, fill-length, fill-all}
+use Rattle.modes.specs.Modes.{ctr}
+use Rattle.modes.proofs.Counter.{steps, no-step}
+use Rattle.modes.proofs.Streamed.{Streamed, shorter, stream-start, stream-part, stream-next, stream-same, ctr-from}
+use borrow.Author.Needs.{needs}
+use native.Mathlib.Omega.{arith}
+use Rattle.modes.proofs.ctr.Statement.{statement}
+use Rattle.modes.proofs.ctr.Tie as tie
+
+abbrev Inv-loop : tie.InvT-loop
+Inv-loop keys used part₀ from b₀ at₀ part b at = Streamed (encipher keys) b₀ from part₀ part b at
+
+abbrev μ-loop : tie.MeasureT-loop
+μ-loop keys used part₀ from b₀ at₀ part b at = length part₀ - at
+
+loop-holds : tie.Need-loop-holds Inv-loop μ-loop
+loop-holds c =
+    let b = c .counter-after .result in
+    let n : length b ≡ 16 = search needs in
+    let f : (i : ℕ) → Fits w8 (getD b i 0) = λ i. search needs in
+    let z : (c .before .before .args .used % 16) / 16 ≡ 0 = omega arith in
+    stream-start _ b _ _ b (rw z (sym (no-step b n (λ i. f i .fits))))
+
+xor-part-requires : tie.Need-xor-part-requires Inv-loop μ-loop
+xor-part-requires c κs =
+    let l = c .before .before .before .before .before .before .loop in
+    omega (arith, c .before .before .before .before .least .ensures, shorter (l .at + c .before .before .before .before .least .result - l .at) (drop (l .at) (l .part)))
+
+-- what the turn's part makes of the slice
+turned : (c : tie.After-xor-part Inv-loop μ-loop)
+    → (let l = c .before .before .before .before .before .before .before .loop in
+    let n : ℕ = c .before .before .before .before .before .least .result in
+    let a = c .before .before .before .before .before .before .before .before .before .before .args in
+    Filled (a .part .now) (putMid (l .at) (l .at + n - l .at) (l .part) (c .xor-part .last .1 .1 .0))
+    (ctr (encipher (a .keys)) (c .before .before .before .before .before .before .before .before .counter-after .result) (a .used % 16) (take (l .at + n) (a .part .now))) (l .at + n))
+turned c =
+    let l = c .before .before .before .before .before .before .before .loop in
+    let n : ℕ = c .before .before .before .before .before .least .result in
+    let e = c .before .before .before .before .before .least .ensures in
+    let t = c .before .before .before .before .before .before .loop-test .taken in
+    let pad = c .before .before .bytes .result in
+    let k : length pad ≡ 16 = search needs in
+    let p : pad ≡ encipher (c .before .before .before .before .before .before .before .before .before .before .args .keys) (l .b) =
+    c .before .before .bytes .ensures ∙ c .before .before .before .encipher .ensures ∙ ap (encipher (c .before .before .before .before .before .before .before .before .before .before .args .keys)) (c .before .before .before .before .new .ensures) in
+    stream-part (l .inv) n (omega (arith, e, t)) (omega (arith, e, t)) (omega (arith, e, t, fill-length (l .inv .filled))) pad
+    (c .xor-part .last .1 .1 .0) k p (c .xor-part .ensures)
+
+loop-less : tie.Need-loop-less Inv-loop μ-loop
+loop-less c = omega (arith, fill-length (c .before .before .before .before .before .before .before .before .before .before .before .loop .inv .filled), c .before .before .before .before .before .before .before .before .before .least .ensures, c .before .before .before .before .before .before .before .before .before .before .loop-test .taken)
+
+loop-again : tie.Need-loop-again Inv-loop μ-loop
+loop-again c =
+    let s = c .before .before .before .before .before .before .before .before .before .before .before .loop .inv in
+    let n : ℕ = c .before .before .before .before .before .before .before .before .before .least .result in
+    let e = c .before .before .before .before .before .before .before .before .before .least .ensures in
+    let t = c .before .before .before .before .before .before .before .before .before .before .loop-test .taken in
+    let k : length (c .before .before .before .before .before .before .before .before .before .before .before .before .counter-after .result) ≡ 16 = search needs in
+    record {
+      filled = turned (c .before .before .before .before);
+      block = c .counter-after2 .ensures ∙ stream-next s n (omega (arith, e, t)) (omega (arith, e, t)) (omega arith) (c .before .if1 .taken);
+    }
+
+loop-less-2 : tie.Need-loop-less-2 Inv-loop μ-loop
+loop-less-2 c = omega (arith, fill-length (c .before .before .before .before .before .before .before .before .before .before .loop .inv .filled), c .before .before .before .before .before .before .before .before .least .ensures, c .before .before .before .before .before .before .before .before .before .loop-test .taken)
+
+loop-again-2 : tie.Need-loop-again-2 Inv-loop μ-loop
+loop-again-2 c =
+    let s = c .before .before .before .before .before .before .before .before .before .before .loop .inv in
+    let n : ℕ = c .before .before .before .before .before .before .before .before .least .result in
+    let e = c .before .before .before .before .before .before .before .before .least .ensures in
+    let t = c .before .before .before .before .before .before .before .before .before .loop-test .taken in
+    record {
+      filled = turned (c .before .before .before);
+      block = stream-same s n (omega (arith, e, t)) (omega (arith, e, t)) (c .if1 .left);
+    }
+
+same-length : tie.Need-same-length Inv-loop μ-loop
+same-length c = fill-length (c .before .loop .inv .filled)
+
+returns : tie.Need-returns Inv-loop μ-loop
+returns c =
+    let s = c .before .loop .inv in
+    let a = c .before .before .before .before .args in
+    let xs : List ℕ = a .part .now in
+    let i : ℕ = c .before .loop .at in
+    let l : length xs ≡ i = omega (arith, fill-length (s .filled), s .filled .fits) in
+    let k : length (a .counter) ≡ 16 = search needs in
+    let q : a .used / 16 * 16 + a .used % 16 ≡ a .used = omega arith in
+    let r : a .used / 16 + (a .used % 16 + i) / 16 ≡ (a .used + i) / 16 = omega arith in (
+      (rw (take-all i xs (omega arith)) at (fill-all (s .filled) (omega arith)))
+          ∙ rw (c .before .before .counter-after .ensures) (ctr-from (encipher (a .keys)) (a .counter) (omega arith) (a .used / 16) (a .used % 16) xs ∙ rw q),
+      s .block ∙ rw (c .before .before .counter-after .ensures, l) (steps (a .counter) (omega arith) (a .used / 16) ((a .used % 16 + i) / 16) ∙ rw r),
+    )
+
+pub ctr-spec : {M : Type 1} → statement M
+ctr-spec =
+    tie.close
+    (tie.spec Inv-loop μ-loop (search needs) loop-holds (search needs) (search needs) (search needs) (search needs)
+    (search needs) (search needs) (search needs) (search needs) (search needs) (search needs) (search needs)
+    xor-part-requires (search needs) (search needs) loop-less loop-again loop-less-2 loop-again-2 same-length
+    returns)
