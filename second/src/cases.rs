@@ -2,8 +2,11 @@
 
 mod auxiliary;
 mod boxes;
+mod issuers;
+mod samples;
+mod streams;
+mod volumes;
 
-use crate::hex;
 use crate::track::{self, Parameters};
 use std::io::{self, Write};
 
@@ -12,6 +15,10 @@ pub fn print(set: &str, seed: u64, count: u64, out: &mut impl Write) -> io::Resu
     let line: fn(&mut Random, u64) -> String = match set {
         "box" => boxes::line,
         "aux" => auxiliary::line,
+        "sample" => samples::line,
+        "stream" => streams::line,
+        "issuer" => issuers::line,
+        "volume" => volumes::line,
         _ => return Ok(false),
     };
     let mut random = Random(seed);
@@ -144,13 +151,5 @@ fn mend_size(bytes: &mut [u8]) {
     let length = bytes.len() as u32;
     if let Some(size) = bytes.get_mut(..4) {
         size.copy_from_slice(&length.to_be_bytes());
-    }
-}
-
-fn text(bytes: &[u8]) -> String {
-    if bytes.is_empty() {
-        "-".to_string()
-    } else {
-        hex::write(bytes)
     }
 }

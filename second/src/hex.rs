@@ -10,6 +10,15 @@ pub fn write(bytes: &[u8]) -> String {
     text
 }
 
+/// The same as a word of a line: `-` for no bytes.
+pub fn word(bytes: &[u8]) -> String {
+    if bytes.is_empty() {
+        "-".to_string()
+    } else {
+        write(bytes)
+    }
+}
+
 /// `None` for an odd number of digits or anything but lower-case hex digits.
 pub fn read(text: &[u8]) -> Option<Vec<u8>> {
     if text.len() % 2 != 0 {

@@ -7,7 +7,7 @@ use std::process::ExitCode;
 const USAGE: &str = "usage: second vectors
        second replay
        second sheet
-       second cases box|aux SEED COUNT";
+       second cases box|aux|sample|stream|issuer|volume SEED COUNT";
 
 fn main() -> ExitCode {
     let words: Vec<String> = std::env::args().skip(1).collect();

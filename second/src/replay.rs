@@ -3,17 +3,24 @@
 //! Words are parted by single spaces. Bytes are pairs of lower-case hex digits, `-` for none. Numbers
 //! are decimal digits without leading zeros, within the range of their place. A wrong word count, an
 //! unknown kind, or a word that breaks these rules makes the line malformed.
+//!
+//! VERSION, CRYPT, SKIP, PROTECTED and IVSIZE are 0 to 255, a ROOM 0 to 65,536, other numbers any of
+//! their type. In `write` and `record` CODE is exactly 4 bytes and KID, CONSTANT, KEY, BLOCK and HELD
+//! are exactly 16; all other byte strings may have any length. A last line needs no newline.
 
+mod streams;
+mod vault;
+pub(crate) mod words;
+
+use self::words::{any, byte, direction, fixed, map_text, number, parameters_text};
 use crate::hex;
+use crate::sample::{self, Direction};
 use crate::subsample::{self, Map};
 use crate::track::{self, Parameters};
 use std::io::{self, BufRead, Read, Write};
 
 /// Longest line, without its newline.
 const LONGEST_LINE: usize = 256 * 1024;
-
-/// Longest output that a line can lend.
-const LONGEST_ROOM: u64 = 65536;
 
 const MALFORMED: &str = "malformed";
 
@@ -65,9 +72,9 @@ fn call(words: &[&[u8]]) -> Option<String> {
                 kid: fixed(kid)?,
                 constant: fixed(constant)?,
             };
-            let mut out = lent(room)?;
+            let mut out = vec![0; words::room(room)?];
             Some(match track::write(&parameters, &mut out) {
-                Ok(length) => format!("0 {}", text(&out[..length])),
+                Ok(length) => format!("0 {}", hex::word(&out[..length])),
                 Err(number) => format!("{number} -"),
             })
         }
@@ -78,78 +85,22 @@ fn call(words: &[&[u8]]) -> Option<String> {
                 Ok((map, iv)) => (0, map, iv),
                 Err(number) => (number, Map::EMPTY, [0; 16]),
             };
-            Some(format!("{number} {} {}", map_text(&map), text(&iv)))
+            Some(format!("{number} {} {}", map_text(&map), hex::word(&iv)))
         }
-        _ => None,
-    }
-}
-
-/// A byte string of any length.
-fn any(word: &[u8]) -> Option<Vec<u8>> {
-    match word {
-        b"" => None,
-        b"-" => Some(Vec::new()),
-        digits => hex::read(digits),
-    }
-}
-
-/// A byte string of exactly `N` bytes.
-fn fixed<const N: usize>(word: &[u8]) -> Option<[u8; N]> {
-    any(word)?.try_into().ok()
-}
-
-/// A number from 0 to `largest`.
-fn number(word: &[u8], largest: u64) -> Option<u64> {
-    if word.len() > 1 && word[0] == b'0' || !word.iter().all(u8::is_ascii_digit) {
-        return None;
-    }
-    let value = std::str::from_utf8(word).ok()?.parse().ok()?;
-    (value <= largest).then_some(value)
-}
-
-/// A number from 0 to 255.
-fn byte(word: &[u8]) -> Option<u8> {
-    Some(number(word, u8::MAX.into())? as u8)
-}
-
-/// An output of as many bytes as the word says, 0 to 65,536.
-fn lent(word: &[u8]) -> Option<Vec<u8>> {
-    Some(vec![0; number(word, LONGEST_ROOM)? as usize])
-}
-
-fn text(bytes: &[u8]) -> String {
-    if bytes.is_empty() {
-        "-".to_string()
-    } else {
-        hex::write(bytes)
-    }
-}
-
-fn parameters_text(p: &Parameters) -> String {
-    format!(
-        "{} {} {}:{} {} {} {} {}",
-        text(&p.code),
-        p.version,
-        p.crypt,
-        p.skip,
-        p.protected,
-        p.iv_size,
-        text(&p.kid),
-        text(&p.constant)
-    )
-}
-
-/// The count and the entries that count.
-fn map_text(map: &Map) -> String {
-    let entries: Vec<String> = map
-        .written()
-        .iter()
-        .map(|entry| format!("{}:{}", entry.clear, entry.protected))
-        .collect();
-    if entries.is_empty() {
-        format!("{} -", map.count)
-    } else {
-        format!("{} {}", map.count, entries.join(","))
+        [kind @ (b"lock" | b"open"), code, track_box, aux, keys, sample] => {
+            let (code, track_box) = (any(code)?, any(track_box)?);
+            let (aux, keys, mut sample) = (any(aux)?, any(keys)?, any(sample)?);
+            let call = match direction(kind)? {
+                Direction::Lock => sample::lock,
+                Direction::Open => sample::open,
+            };
+            let number = call(&code, &track_box, &aux, &keys, &mut sample);
+            Some(format!("{number} {}", hex::word(&sample)))
+        }
+        [b"stream", words @ ..] => streams::stream(words),
+        [b"record", words @ ..] => streams::record(words),
+        [b"issuer", words @ ..] => vault::issuer(words),
+        _ => vault::volume(words),
     }
 }
 

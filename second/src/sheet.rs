@@ -52,7 +52,7 @@ mod tests {
         assert_eq!(lines(&[0; 4097]), "refused 1\n");
     }
 
-    /// A box of 4,093 bytes is told apart from one that is merely not as its fields say.
+    /// At the limit the box is still read; past it nothing in it counts.
     #[test]
     fn longest_input() {
         let long_box = |length: usize| {

@@ -1,6 +1,7 @@
 //! Lines `aux`, and entries and auxiliary data for other lines.
 
-use super::{any_parameters, box_of, boxes, parameters, text, Random, KINDS, PROTECTED_KINDS};
+use super::{any_parameters, box_of, boxes, parameters, Random, KINDS, PROTECTED_KINDS};
+use crate::hex::word;
 use crate::subsample::{Entry, LONGEST_SAMPLE};
 use crate::track::Parameters;
 
@@ -54,9 +55,9 @@ pub fn line(random: &mut Random, n: u64) -> String {
 fn aux_line(code: &[u8], track_box: &[u8], length: u64, aux: &[u8]) -> String {
     format!(
         "aux {} {} {length} {}",
-        text(code),
-        text(track_box),
-        text(aux)
+        word(code),
+        word(track_box),
+        word(aux)
     )
 }
 

@@ -1,6 +1,7 @@
 //! Lines `box` and `write`.
 
-use super::{any_parameters, box_of, mend_size, parameters, text, Random, CODES, KINDS};
+use super::{any_parameters, box_of, mend_size, parameters, Random, CODES, KINDS};
+use crate::hex::word;
 use crate::track::Parameters;
 
 pub fn line(random: &mut Random, n: u64) -> String {
@@ -25,7 +26,7 @@ pub fn line(random: &mut Random, n: u64) -> String {
 }
 
 fn box_line(code: &[u8], bytes: &[u8]) -> String {
-    format!("box {} {}", text(code), text(bytes))
+    format!("box {} {}", word(code), word(bytes))
 }
 
 /// Goes through every kind and every place of its box in turn.
@@ -163,14 +164,14 @@ fn write_line(random: &mut Random, p: &Parameters) -> String {
     };
     format!(
         "write {} {} {} {} {} {} {} {} {room}",
-        text(&p.code),
+        word(&p.code),
         p.version,
         p.crypt,
         p.skip,
         p.protected,
         p.iv_size,
-        text(&p.kid),
-        text(&p.constant)
+        word(&p.kid),
+        word(&p.constant)
     )
 }
 
