@@ -16,11 +16,11 @@ module _ (E D : Cipher) (d : Direction) (c xs : List ℕ) where
     more : length xs / 16 ≡ suc (length (drop 16 xs) / 16)
     more = simp length-drop (omega arith)
 
-    cbc-step : cbc E D d c xs ≡ blockOut E D d c (take 16 xs) ++ cbc E D d (blockChain E D d c (take 16 xs)) (drop 16 xs)
+    pub cbc-step : cbc E D d c xs ≡ blockOut E D d c (take 16 xs) ++ cbc E D d (blockChain E D d c (take 16 xs)) (drop 16 xs)
     unfolding cbc cbcBlocks
     cbc-step = rw more
 
-    end-step : chainEnd E D d c xs ≡ chainEnd E D d (blockChain E D d c (take 16 xs)) (drop 16 xs)
+    pub end-step : chainEnd E D d c xs ≡ chainEnd E D d (blockChain E D d c (take 16 xs)) (drop 16 xs)
     unfolding chainEnd chainBlocks
     end-step = rw more
 
@@ -29,11 +29,11 @@ module _ (E D : Cipher) (d : Direction) (c xs : List ℕ) where
     none : length xs / 16 ≡ 0
     none = omega arith
 
-    cbc-rest : cbc E D d c xs ≡ xs
+    pub cbc-rest : cbc E D d c xs ≡ xs
     unfolding cbc cbcBlocks
     cbc-rest = rw none
 
-    end-rest : chainEnd E D d c xs ≡ c
+    pub end-rest : chainEnd E D d c xs ≡ c
     unfolding chainEnd chainBlocks
     end-rest = rw none
 

@@ -17,7 +17,7 @@ use Rattle.modes.proofs.Strings.{length-xors}
 pub shorter : (n : ℕ) (xs : List ℕ) → length (take n xs) ≤ n
 shorter n xs = rw length-take (omega arith)
 
-ctr-append : (E : Cipher) (iv : List ℕ) (k : ℕ) (xs ys : List ℕ)
+pub ctr-append : (E : Cipher) (iv : List ℕ) (k : ℕ) (xs ys : List ℕ)
     → ctr E iv k (xs ++ ys) ≡ ctr E iv k xs ++ ctr E iv (k + length xs) ys
 unfolding ctr
 ctr-append E iv k [] ys = rw add-zero

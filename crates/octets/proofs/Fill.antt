@@ -4,8 +4,8 @@ use mathlib.Core.Path.{_≡_, refl, sym, ap, _∙_}
 use Prim.Native.Nat.{ℕ, suc, _+_, _-_, _≤_, _<_}
 use native.Mathlib.Numerals.{add-one}
 use native.Mathlib.Omega.{arith}
-use lib.ListN.{length, getD, take, drop, set, length-append, length-drop, drop-of-length-le}
-use lib.Seq.{drop-cons, drop-drop, set-at, getD-at, take-suc, take-at, drop-at}
+use lib.ListN.{length, getD, take, drop, set, length-append, length-drop, drop-of-length-le, take-append-drop}
+use lib.Seq.{drop-cons, drop-drop, set-at, getD-at, take-suc, take-at, drop-at, length-take-le}
 use borrow.Rule.Slice.PartMut.{putMid}
 use Rattle.octets.specs.Bytes.{placed}
 use Rattle.octets.proofs.Bytes.{placed-fits}
@@ -69,6 +69,18 @@ module _ {xs ys p : List ℕ} {i : ℕ} (f : Filled xs ys p i) where
             (sym (append-assoc p b (drop e xs)));
         size = length-append p b ∙ ap (λ (k : ℕ). k + length b) (f .size) ∙ n;
         fits = h;
+      }
+
+  -- a part from i on stays as it was
+  pub fill-keep : (m : ℕ) → i + m ≤ length xs → Filled xs ys (p ++ take m (drop i xs)) (i + m)
+  fill-keep m l =
+      record {
+        here =
+            f .here
+            ∙ rw (← (drop-drop m i xs))
+            (sym (append-assoc p (take m (drop i xs)) (drop m (drop i xs)) ∙ rw (take-append-drop m (drop i xs))));
+        size = simp (length-append, length-take-le m (drop i xs) (simp length-drop (omega arith))) (omega (arith, f .size));
+        fits = l;
       }
 
 -- one element more

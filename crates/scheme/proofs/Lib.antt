@@ -1,0 +1,14 @@
+pub mod Pieces
+pub mod Agreement
+pub mod Positions
+pub mod Demand
+pub mod Passes
+pub mod Walk
+pub mod Holding
+pub mod Runs
+pub mod Ranges
+pub mod EntryParts
+pub mod SampleParts
+pub mod Ciphering
+pub mod Locating
+pub mod Feeding

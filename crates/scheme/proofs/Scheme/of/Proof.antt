@@ -1,0 +1,27 @@
+use mathlib.Core.Path.{sym, _∙_}
+use Rattle.scheme.specs.Layout.{schemeOf}
+use borrow.Author.Needs.{needs}
+use Rattle.scheme.proofs.Scheme.of.Statement.{statement}
+use Rattle.scheme.proofs.Scheme.of.Tie as tie
+
+returns : tie.Need-returns
+unfolding schemeOf
+returns c = rw (sym (c .before .same .ensures) ∙ c .if1 .taken)
+
+returns-2 : tie.Need-returns-2
+unfolding schemeOf
+returns-2 c = rw (sym (c .before .before .before .before .before .same .ensures) ∙ c .before .before .before .before .if1 .left, sym (c .before .same2 .ensures) ∙ c .if2 .taken)
+
+returns-3 : tie.Need-returns-3
+unfolding schemeOf
+returns-3 c = rw (sym (c .before .before .before .before .before .before .before .before .before .same .ensures) ∙ c .before .before .before .before .before .before .before .before .if1 .left, sym (c .before .before .before .before .before .same2 .ensures) ∙ c .before .before .before .before .if2 .left, sym (c .before .same3 .ensures) ∙ c .if3 .taken)
+
+returns-4 : tie.Need-returns-4
+unfolding schemeOf
+returns-4 c = rw (sym (c .before .before .before .before .before .before .before .before .before .same .ensures) ∙ c .before .before .before .before .before .before .before .before .if1 .left, sym (c .before .before .before .before .before .same2 .ensures) ∙ c .before .before .before .before .if2 .left, sym (c .before .same3 .ensures) ∙ c .if3 .left)
+
+pub of-spec : {M : Type 1} → statement M
+of-spec =
+    tie.close
+    (tie.spec (search needs) (search needs) (search needs) returns (search needs) (search needs) (search needs) returns-2
+    (search needs) (search needs) (search needs) returns-3 returns-4)

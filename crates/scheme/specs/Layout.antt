@@ -1,0 +1,96 @@
+-- Document 01, "Which bytes are ciphered, and how": for each byte of a sample, whether it is ciphered.
+use mathlib.Core.Bool.{Bool, true, false, cond, _&&_}
+use mathlib.Core.List.{List, [], _∷_, _++_}
+use Prim.Native.Nat.{ℕ, zero, suc, _+_, _/_, _%_}
+use lib.Dec.{ltb, eqb}
+use lib.ListN.{replicate}
+use Rattle.octets.specs.Bytes.{same}
+use Rattle.track.specs.Track.{cbc1, cens, cbcs}
+use Rattle.scheme.specs.declared.Scheme.{Scheme}
+use Rattle.scheme.specs.declared.Scheme.the-variants.{Cenc, Cbc1, Cens, Cbcs}
+
+-- The scheme that a code names; cenc for a code that names none.
+unfoldable pub schemeOf : List ℕ → Scheme
+schemeOf code = cond (same code cbc1) Cbc1 (cond (same code cens) Cens (cond (same code cbcs) Cbcs Cenc))
+
+-- ---- A protected range of n bytes.
+
+-- The byte at offset o lies in a whole block.
+unfoldable pub inWholeBlock : ℕ → ℕ → Bool
+inWholeBlock n o = ltb (o / 16) (n / 16)
+
+-- The block at offset o is one of the crypt blocks that each crypt + skip blocks begin with.
+unfoldable pub inCryptRun : ℕ → ℕ → ℕ → Bool
+inCryptRun crypt skip o = ltb (o / 16 % (crypt + skip)) crypt
+
+-- The byte at offset o is ciphered.
+unfoldable pub isCiphered : Scheme → ℕ → ℕ → ℕ → ℕ → Bool
+isCiphered Cenc crypt skip n o = true
+isCiphered Cbc1 crypt skip n o = inWholeBlock n o
+isCiphered Cens crypt skip n o = inWholeBlock n o && inCryptRun crypt skip o
+isCiphered Cbcs crypt skip n o = inWholeBlock n o && inCryptRun crypt skip o
+
+-- The byte at offset o lies in a block whose chain starts anew: in cbcs the range's first.
+unfoldable pub restarts : Scheme → ℕ → ℕ → Bool
+restarts Cenc n o = false
+restarts Cbc1 n o = false
+restarts Cens n o = false
+restarts Cbcs n o = eqb (o / 16) 0
+
+-- ---- A sample.
+
+-- A subsample entry: clear bytes, then protected bytes.
+pub record Entry : Type 0 where
+  pub clear : ℕ
+  pub protected : ℕ
+
+abbrev pub entry : ℕ → ℕ → Entry
+entry a n = record { clear = a; protected = n }
+
+-- How many bytes the entries call for.
+unfoldable pub total : List Entry → ℕ
+total [] = 0
+total (e ∷ es) = e .clear + (e .protected + total es)
+
+-- f at o, o + 1, .., k of them.
+unfoldable pub tabulate : (ℕ → Bool) → ℕ → ℕ → List Bool
+tabulate f o zero = []
+tabulate f o (suc k) = f o ∷ tabulate f (suc o) k
+
+-- f n o for each byte of a protected range of n bytes, o its offset.
+unfoldable pub rangeMarks : (ℕ → ℕ → Bool) → ℕ → List Bool
+rangeMarks f n = tabulate (f n) 0 n
+
+-- For each byte of the sample: no for a clear one, and what f says for a protected one.
+unfoldable pub marks : (ℕ → ℕ → Bool) → List Entry → List Bool
+marks f [] = []
+marks f (e ∷ es) = replicate (e .clear) false ++ (rangeMarks f (e .protected) ++ marks f es)
+
+-- For each byte of the sample, whether it is ciphered.
+unfoldable pub mask : Scheme → ℕ → ℕ → List Entry → List Bool
+mask s crypt skip es = marks (isCiphered s crypt skip) es
+
+-- For each byte of the sample, whether the chain of its block starts anew.
+unfoldable pub restartMask : Scheme → List Entry → List Bool
+restartMask s es = marks (restarts s) es
+
+-- How many places are marked.
+unfoldable pub count : List Bool → ℕ
+count [] = 0
+count (true ∷ ms) = suc (count ms)
+count (false ∷ ms) = count ms
+
+-- The bytes at the marked places, in order.
+unfoldable pub chosen : List Bool → List ℕ → List ℕ
+chosen [] xs = []
+chosen (m ∷ ms) [] = []
+chosen (true ∷ ms) (x ∷ xs) = x ∷ chosen ms xs
+chosen (false ∷ ms) (x ∷ xs) = chosen ms xs
+
+-- xs with the marked places filled from ys, in order.
+unfoldable pub replaced : List Bool → List ℕ → List ℕ → List ℕ
+replaced [] ys xs = xs
+replaced (m ∷ ms) ys [] = []
+replaced (true ∷ ms) [] (x ∷ xs) = x ∷ xs
+replaced (true ∷ ms) (y ∷ ys) (x ∷ xs) = y ∷ replaced ms ys xs
+replaced (false ∷ ms) ys (x ∷ xs) = x ∷ replaced ms ys xs

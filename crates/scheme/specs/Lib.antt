@@ -1,0 +1,4 @@
+pub mod Layout
+pub mod WholeSample
+pub mod Machine
+pub mod Held
