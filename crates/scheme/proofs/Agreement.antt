@@ -22,11 +22,7 @@ use Rattle.octets.specs.Bytes.{Bytes}
 use Rattle.modes.proofs.Counter.{steps, no-step}
 use Rattle.scheme.proofs.Pieces.{cond-law, count-marked, count-unmarked, Sized, length-blockOut, feed-append, feed-position, heldAfter, Added, feed-adds}
 use Rattle.scheme.specs.Layout.{count}
-use Rattle.scheme.specs.Machine.{State, Stepped, Mode, Counter, Chain, modeOf, chainAt, plain, counted, chained, ciphered, step, feed, feedSample}
-
--- a state with nothing held
-abbrev pub free : ℕ → List ℕ → State
-free p c = record { position = p; block = c; held = [] }
+use Rattle.scheme.specs.Machine.{free, State, Stepped, Mode, Counter, Chain, modeOf, chainAt, plain, counted, chained, ciphered, step, feed, feedSample}
 
 -- ---- what stands at a place of a list of marks
 
@@ -228,7 +224,7 @@ module _ (crypt skip : ℕ) where
   unfolding rangeMarks isCiphered inWholeBlock restarts
   blockwise-cbc1 n = blockwise-later (λ (k : ℕ). ltb k (n / 16)) (λ (k : ℕ). false) (n / 16) 0 (n % 16) n (omega arith) (omega arith) (le-ltb (0 + n / 16) (n / 16) (omega arith)) (λ j u. refl)
 
-  blockwise-cbcs : inCryptRun crypt skip 0 ≡ true → (n : ℕ) → Blockwise true (rangeMarks (isCiphered Cbcs crypt skip) n) (rangeMarks (restarts Cbcs) n)
+  blockwise-cbcs : isCiphered Cbcs crypt skip 16 0 ≡ true → (n : ℕ) → Blockwise true (rangeMarks (isCiphered Cbcs crypt skip) n) (rangeMarks (restarts Cbcs) n)
   unfolding rangeMarks isCiphered inWholeBlock inCryptRun restarts
   blockwise-cbcs c n =
       blockwise-range (λ (k : ℕ). ltb k (n / 16) && ltb (k % (crypt + skip)) crypt) (λ (k : ℕ). eqb k 0) n (rw (le-ltb (n / 16) (n / 16) (omega arith))) (λ u. rw (lt-ltb 0 (n / 16) u, c)) refl (λ j u. ne-eqb j 0 (omega arith))
@@ -270,7 +266,7 @@ module _ (E D : Cipher) (sE : Sized E) (sD : Sized D) (d : Direction) (iv : List
       (sym (append-nil _)) (sym (append-nil _)) (λ c′. refl))
 
   -- cbcs: range by range
-  module _ (M F : List Bool) (some : inCryptRun crypt skip 0 ≡ true) where
+  module _ (M F : List Bool) (some : isCiphered Cbcs crypt skip 16 0 ≡ true) where
     entry-feed : (a b : ℕ) (cs bs zs R : List ℕ) (p : ℕ) (c : List ℕ) (ns gs : List Bool) → length cs ≡ a → length bs ≡ b
         → drop p M ≡ replicate a false ++ (rangeMarks (isCiphered Cbcs crypt skip) b ++ ns)
         → drop p F ≡ replicate a false ++ (rangeMarks (restarts Cbcs) b ++ gs)
@@ -323,16 +319,16 @@ module _ (E D : Cipher) (sE : Sized E) (sD : Sized D) (d : Direction) (iv : List
   unfolding count
   counter-sample M F xs l = rw (no-step iv (bytes .size) (bytes .small)) at (counter-feed E D d iv M F (omega (arith, bytes .size)) xs M 0 [] 0 refl l refl)
 
-  pub machine-whole : (s : Scheme) → (s ≡ Cbcs → inCryptRun crypt skip 0 ≡ true) → (xs : List ℕ) → length xs ≡ total es
+  pub machine-whole : (s : Scheme) → isCiphered s crypt skip 16 0 ≡ true → (xs : List ℕ) → length xs ≡ total es
       → feedSample E D d s crypt skip iv es (start iv) xs .released ≡ whole E D iv crypt skip es d s xs
   unfolding feedSample modeOf whole
   machine-whole Cenc a xs l = counter-sample (mask Cenc crypt skip es) (restartMask Cenc es) xs (l ∙ sym (length-mask Cenc))
   machine-whole Cbc1 a xs l = cbc1-feed E D sE sD d iv crypt skip es iv xs (l ∙ sym (length-mask Cbc1))
   machine-whole Cens a xs l = counter-sample (mask Cens crypt skip es) (restartMask Cens es) xs (l ∙ sym (length-mask Cens))
-  machine-whole Cbcs a xs l = cbcs-feed E D sE sD d iv crypt skip (mask Cbcs crypt skip es) (restartMask Cbcs es) (a refl) es xs 0 iv l refl refl
+  machine-whole Cbcs a xs l = cbcs-feed E D sE sD d iv crypt skip (mask Cbcs crypt skip es) (restartMask Cbcs es) a es xs 0 iv l refl refl
 
   -- what has been released at position x is the beginning of the whole sample's result, but for the bytes held
-  pub released : (s : Scheme) → (s ≡ Cbcs → inCryptRun crypt skip 0 ≡ true) → (xs : List ℕ) → length xs ≡ total es → (x : ℕ) → x ≤ length xs
+  pub released : (s : Scheme) → isCiphered s crypt skip 16 0 ≡ true → (xs : List ℕ) → length xs ≡ total es → (x : ℕ) → x ≤ length xs
       → feedSample E D d s crypt skip iv es (start iv) (take x xs) .released ≡ take (x - heldAfter (modeOf s) (count (take x (mask s crypt skip es)))) (whole E D iv crypt skip es d s xs)
   unfolding feedSample count
   released s a xs l x u =

@@ -19,14 +19,14 @@ flip : {A : Type 0} → true ≡ false → A
 flip e = absurd (let z : _≡_ {A = ℕ} 0 1 = cc in omega arith)
 
 pub is-counter : (s : Scheme) → counts s ≡ true → modeOf s ≡ Counter
-unfolding counts modeOf
+unfolding modeOf
 is-counter Cenc e = refl
 is-counter Cbc1 e = flip (sym e)
 is-counter Cens e = refl
 is-counter Cbcs e = flip (sym e)
 
 pub is-chain : (s : Scheme) → counts s ≡ false → modeOf s ≡ Chain
-unfolding counts modeOf
+unfolding modeOf
 is-chain Cenc e = flip e
 is-chain Cbc1 e = refl
 is-chain Cens e = flip e

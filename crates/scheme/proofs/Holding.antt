@@ -15,7 +15,8 @@ use Rattle.scheme.specs.declared.Scheme.the-variants.{Cenc, Cbc1, Cens, 
 use Rattle.scheme.specs.Layout.{Entry, total, inWholeBlock, inCryptRun, isCiphered, marks, mask, restartMask}
 use Rattle.modes.specs.Modes.{Cipher}
 use Rattle.scheme.proofs.Pieces.{cond-law, Sized, heldAfter, Added, feed-adds, feed-position}
-use Rattle.scheme.proofs.Agreement.{free, drop-head, drop-tail}
+use Rattle.scheme.proofs.Agreement.{drop-head, drop-tail}
+use Rattle.scheme.specs.Machine.{free}
 use Rattle.scheme.specs.Held.{Place, Clear, Inside, place, inPlace, inBlock}
 use Rattle.scheme.proofs.Positions.{place-law, marks-at}
 use Rattle.scheme.specs.Held.{heldAt}

@@ -12,3 +12,5 @@ pub mod SampleParts
 pub mod Ciphering
 pub mod Locating
 pub mod Feeding
+pub mod Undone
+pub mod Counters

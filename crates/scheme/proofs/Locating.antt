@@ -11,7 +11,7 @@ use lib.Seq.{take-append-le, take-nil, take-all}
 use borrow.Author.Tests.{lt-ltb, le-ltb}
 use Rattle.scheme.specs.declared.Scheme.{Scheme}
 use Rattle.scheme.specs.declared.Scheme.the-variants.{Cenc, Cbc1, Cens, Cbcs}
-use Rattle.scheme.specs.Layout.{Entry, isCiphered, rangeMarks, marks, mask}
+use Rattle.scheme.specs.Layout.{Entry, entry, isCiphered, rangeMarks, marks, mask}
 use Rattle.scheme.proofs.Agreement.{length-range}
 use Rattle.scheme.specs.Held.{Place, Clear, Inside, place, inPlace, inBlock}
 use Rattle.scheme.proofs.Positions.{rank-block, count-run, count-none, count-after}
@@ -120,14 +120,12 @@ cross : {A : Type 0} → true ≡ false → A
 cross e = absurd (let z : _≡_ {A = ℕ} 0 1 = cc in omega arith)
 
 pub is-cenc : (s : Scheme) → isCenc s ≡ true → s ≡ Cenc
-unfolding isCenc
 is-cenc Cenc e = refl
 is-cenc Cbc1 e = cross (sym e)
 is-cenc Cens e = cross (sym e)
 is-cenc Cbcs e = cross (sym e)
 
 pub no-cenc : (s : Scheme) → isCenc s ≡ false → s ≡ Cenc → ⊥
-unfolding isCenc
 no-cenc s e f = cross (sym (ap isCenc f) ∙ e)
 
 -- and how many bytes are held
@@ -137,3 +135,19 @@ held-none crypt skip es s x e = sym (held-counter crypt skip s es x (is-counter 
 pub held-some : (crypt skip : ℕ) (es : List Entry) (s : Scheme) (x : ℕ) → counts s ≡ false → count (take x (mask s crypt skip es)) % 16 ≡ heldAt crypt skip es s x
 unfolding heldAfter
 held-some crypt skip es s x e = rw (is-chain s e) at (heldAt-is crypt skip es s x)
+
+-- where a position lies in a sample that is one protected range
+module _ (n x : ℕ) where
+  pub locate-inside : x < n → Located (entry 0 n ∷ []) x true n x x
+  locate-inside l =
+      let z : x - 0 ≡ x = omega arith in
+      let w : 0 + (x - 0) ≡ x = omega arith in
+      rw (w, z) at (locate-in (locate-start (entry 0 n ∷ []) x) 0 n refl (omega arith) (omega arith))
+
+  pub locate-past : n ≤ x → Located (entry 0 n ∷ []) x false 0 0 n
+  unfolding place mask marks count
+  locate-past l =
+      record {
+        at = place-past 0 n x [] (omega arith) (omega arith);
+        rank = λ crypt skip. rank-past 0 n x [] (omega arith) (omega arith) crypt skip ∙ rw (take-nil (x - 0 - n)) (add-zero n);
+      }

@@ -16,7 +16,8 @@ use Rattle.octets.specs.Bytes.{Bytes}
 use Rattle.modes.proofs.Counter.{steps, no-step}
 use Rattle.modes.proofs.Chained.{cbc-step, end-step, cbc-rest, end-rest}
 use Rattle.scheme.proofs.Pieces.{Sized, count-marked, count-unmarked, feed-append, feed-append-state}
-use Rattle.scheme.proofs.Agreement.{free, next-block, drop-head, drop-tail, drop-part, block-feed}
+use Rattle.scheme.proofs.Agreement.{next-block, drop-head, drop-tail, drop-part, block-feed}
+use Rattle.scheme.specs.Machine.{free}
 use Rattle.scheme.proofs.Positions.{count-append}
 use Rattle.scheme.specs.Layout.{count}
 use Rattle.scheme.specs.Machine.{State, Stepped, Mode, Counter, Chain, chainAt, plain, counted, chained, ciphered, step, feed}

@@ -5,7 +5,7 @@ use Prim.Native.Nat.{ℕ, zero, suc, _+_, _-_, _*_, _/_, _%_, _^_, _≤_, _<_, m
 use native.Mathlib.Nat.{mod-eq-of-lt, mul-add-mod-self-left, div-add-mod, mod-le, mod-lt}
 use native.Mathlib.Omega.{arith}
 use lib.Dec.{leb, ltb, eqb}
-use borrow.Author.Tests.{lt-ltb, le-ltb}
+use borrow.Author.Tests.{lt-ltb, le-ltb, ltb-true}
 use Rattle.scheme.specs.declared.Scheme.{Scheme}
 use Rattle.scheme.specs.declared.Scheme.the-variants.{Cenc, Cbc1, Cens, Cbcs}
 use Rattle.scheme.specs.Layout.{inWholeBlock, inCryptRun, isCiphered}
@@ -106,3 +106,11 @@ module _ (crypt skip n o e : ℕ) (some : 1 ≤ crypt) (w : o < n / 16 * 16) (s 
   pattern-skip l g =
       let k : o / 16 % (crypt + skip) < crypt + skip = mod-lt (o / 16) (omega arith) in
       rw g (run-skip crypt skip n o first (o / 16 / (crypt + skip)) first-is (omega arith) w s h (omega (arith, mod-le (o / 16) (crypt + skip))) (omega (arith, mod-le (o / 16) (crypt + skip))))
+
+-- a pattern whose first block is ciphered has crypt blocks
+pub some-crypt : (s : Scheme) (crypt skip : ℕ) → ((x : ℕ) → isCiphered s crypt skip 16 x ≡ inWholeBlock 16 x && inCryptRun crypt skip x)
+    → isCiphered s crypt skip 16 0 ≡ true → 1 ≤ crypt
+unfolding inWholeBlock inCryptRun
+some-crypt s crypt skip h e =
+    let l : ltb (0 / 16 % (crypt + skip)) crypt ≡ true = sym (h 0) ∙ e in
+    omega (arith, ltb-true (0 / 16 % (crypt + skip)) crypt l)

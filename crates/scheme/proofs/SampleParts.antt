@@ -14,9 +14,10 @@ use borrow.Rule.Slice.PartMut.{putMid}
 use Rattle.modes.specs.declared.Direction.{Direction}
 use Rattle.scheme.specs.declared.Scheme.{Scheme}
 use Rattle.scheme.specs.declared.Scheme.the-variants.{Cenc, Cbc1, Cens, Cbcs}
-use Rattle.scheme.specs.Layout.{Entry, total, inWholeBlock, inCryptRun, isCiphered, restarts, rangeMarks, marks, mask, restartMask}
+use Rattle.scheme.specs.Layout.{Entry, entry, entries, total, inWholeBlock, inCryptRun, isCiphered, restarts, rangeMarks, marks, mask, restartMask}
 use Rattle.modes.specs.Modes.{Cipher}
-use Rattle.scheme.proofs.Agreement.{free, length-range, machine-whole}
+use Rattle.scheme.proofs.Agreement.{length-range, machine-whole}
+use Rattle.scheme.specs.Machine.{free}
 use Rattle.scheme.specs.WholeSample.{whole}
 use Rattle.octets.specs.Bytes.{Bytes}
 use Rattle.scheme.proofs.Pieces.{cond-law, heldAfter, Sized}
@@ -27,7 +28,7 @@ use Rattle.scheme.proofs.Demand.{heldAt-is}
 use Rattle.scheme.specs.Layout.{count}
 use Rattle.scheme.specs.Machine.{Stepped, Mode, Counter, Chain, modeOf, feedSample}
 use Rattle.scheme.proofs.Passes.{Passes, passes-none, passes-join, left, count-part}
-use Rattle.scheme.proofs.Walk.{Free, Pattern, entryMarks, EntryAsks, EntrySays, entries, SampleAsks, SampleSays}
+use Rattle.scheme.proofs.Walk.{Free, Pattern, entryMarks, EntryAsks, EntrySays, SampleAsks, SampleSays}
 use Rattle.octets.proofs.Fill.{Filled, fill-none, fill-length, fill-all, fill-drop, fill-part}
 use Rattle.scheme.proofs.Runs.{apart}
 
@@ -315,3 +316,45 @@ module _ (crypt skip : ℕ) where
 pub whole-says : (E D : Cipher) → Sized E → Sized D → (d : Direction) (s : Scheme) (crypt skip : ℕ) (iv : List ℕ) → Bytes 16 iv → (es : List Entry) (xs : List ℕ) (u : ℕ) (c ys : List ℕ)
     → Pattern s crypt skip → length xs ≡ total es → SampleSays E D d s crypt skip iv es 0 iv xs u c ys → ys ≡ whole E D iv crypt skip es d s xs
 whole-says E D sE sD d s crypt skip iv bytes es xs u c ys p l w = sym (ap (λ (t : Stepped). t .released) (w .fed)) ∙ machine-whole E D sE sD d iv bytes crypt skip es s (p .first) xs l
+
+-- ---- the entries of a map
+
+-- a map holds no more entries than it has places
+entries-all : (cs ps : List ℕ) (m n : ℕ) → length cs ≤ m → length cs ≤ n → entries cs ps m ≡ entries cs ps n
+unfolding entries
+entries-all [] ps zero zero h k = refl
+entries-all [] ps zero (suc n) h k = refl
+entries-all [] ps (suc m) zero h k = refl
+entries-all [] ps (suc m) (suc n) h k = refl
+entries-all (c ∷ cs) ps zero n h k = absurd (omega arith)
+entries-all (c ∷ cs) ps (suc m) zero h k = absurd (omega arith)
+entries-all (c ∷ cs) [] (suc m) (suc n) h k = refl
+entries-all (c ∷ cs) (p ∷ ps) (suc m) (suc n) h k = ap (λ (es : List Entry). entry c p ∷ es) (entries-all cs ps m n (omega arith) (omega arith))
+
+pub entries-limit : (k : ℕ) (cs ps : List ℕ) (n : ℕ) → length cs ≡ k → entries cs ps (min n k) ≡ entries cs ps n
+entries-limit k cs ps n e = go (ltb n k) refl
+  where
+    go : (b : Bool) → ltb n k ≡ b → entries cs ps (min n k) ≡ entries cs ps n
+    go true h = let l : min n k ≡ n = omega (arith, ltb-true n k h) in rw l
+    go false h = entries-all cs ps (min n k) n (omega (arith, ltb-false n k h)) (omega (arith, ltb-false n k h))
+
+-- the lengths of the entries before the k-th, added up
+pub record Summed (es : List Entry) (all k : ℕ) : Type 0 where
+  pub sum : all + total (drop k es) ≡ total es
+  pub low : all ≤ k * 2 ^ 33
+
+pub sum-start : (es : List Entry) → Summed es 0 0
+sum-start es = record { sum = zero-add (total es); low = omega arith }
+
+module _ {es : List Entry} {all k : ℕ} (s : Summed es all k) where
+  pub sum-next : (p n : ℕ) → drop k es ≡ entry p n ∷ drop (k + 1) es → p < 2 ^ 16 → n < 2 ^ 32 → Summed es (all + (p + n)) (k + 1)
+  unfolding total
+  sum-next p n e hp hn =
+      record {
+        sum = let h : all + (p + (n + total (drop (k + 1) es))) ≡ total es = rw e at (s .sum) in omega arith;
+        low = omega (arith, s .low);
+      }
+
+  pub sum-end : drop k es ≡ [] → all ≡ total es
+  unfolding total
+  sum-end e = let h : all + 0 ≡ total es = rw e at (s .sum) in omega arith

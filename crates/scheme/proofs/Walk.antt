@@ -7,17 +7,17 @@ use lib.ListN.{length, getD, take, drop, replicate}
 use Rattle.modes.specs.declared.Direction.{Direction}
 use Rattle.scheme.specs.declared.Scheme.{Scheme}
 use Rattle.scheme.specs.declared.Scheme.the-variants.{Cenc, Cbc1, Cens, Cbcs}
-use Rattle.scheme.specs.Layout.{Entry, inCryptRun, total, isCiphered, restarts, rangeMarks, mask}
+use Rattle.scheme.specs.Layout.{Entry, total, isCiphered, restarts, rangeMarks, mask}
 use Rattle.modes.specs.Modes.{Cipher}
 use Rattle.scheme.specs.Layout.{count}
 use Rattle.scheme.specs.Machine.{Mode, Counter, Chain, modeOf, feedSample}
-use Rattle.scheme.proofs.Agreement.{free}
+use Rattle.scheme.specs.Machine.{free}
 use Rattle.scheme.specs.Held.{heldAt}
 use Rattle.scheme.specs.Held.{Place, Clear, Inside, place}
 use Rattle.scheme.proofs.Passes.{Passes, left}
 
 -- the scheme is one of the counter mode's
-unfoldable pub counts : Scheme → Bool
+abbrev pub counts : Scheme → Bool
 counts Cenc = true
 counts Cbc1 = false
 counts Cens = true
@@ -38,13 +38,11 @@ pub record Blocks (u n : ℕ) : Type 0 where
 abbrev pub Free : Scheme → ℕ → ℕ → ℕ → ℕ → Type 0
 Free s crypt skip n x = modeOf s ≡ Chain → isCiphered s crypt skip n x ≡ true → x % 16 ≡ 0
 
--- the parameters as far as the walk goes by them
+-- the parameters as far as the walk goes by them: the first block of a range is ciphered
 pub record Pattern (s : Scheme) (crypt skip : ℕ) : Type 0 where
   pub low : crypt ≤ 255
   pub high : skip ≤ 255
-  pub cens : s ≡ Cens → 1 ≤ crypt
-  pub cbcs : s ≡ Cbcs → 1 ≤ crypt
-  pub first : s ≡ Cbcs → inCryptRun crypt skip 0 ≡ true
+  pub first : isCiphered s crypt skip 16 0 ≡ true
 
 -- from offset o to e of a range of n bytes the bytes are ciphered, or none of them is
 pub record RunAt (s : Scheme) (crypt skip n o : ℕ) (b : Bool) (e : ℕ) : Type 0 where
@@ -87,13 +85,6 @@ pub record EntrySays (E D : Cipher) (d : Direction) (s : Scheme) (crypt skip : �
   pub used : u′ < 16
   pub unused : modeOf s ≡ Chain → u′ ≡ 0
 
--- the map's first k entries, of a list of clear lengths and a list of protected lengths
-unfoldable pub entries : List ℕ → List ℕ → ℕ → List Entry
-entries cs ps zero = []
-entries [] ps (suc k) = []
-entries (c ∷ cs) [] (suc k) = []
-entries (c ∷ cs) (p ∷ ps) (suc k) = (record { clear = c; protected = p }) ∷ entries cs ps k
-
 -- a part of m bytes from position x on of a sample: it begins and ends where nothing is held
 pub record SampleAsks (s : Scheme) (crypt skip : ℕ) (es : List Entry) (x m u : ℕ) : Type 0 where
   pub pattern : Pattern s crypt skip
@@ -113,7 +104,7 @@ pub record Located (es : List Entry) (x : ℕ) (b : Bool) (n o r : ℕ) : Type 0
   pub rank : (crypt skip : ℕ) → count (take x (mask Cenc crypt skip es)) ≡ r
 
 -- every protected byte is ciphered
-unfoldable pub isCenc : Scheme → Bool
+abbrev pub isCenc : Scheme → Bool
 isCenc Cenc = true
 isCenc Cbc1 = false
 isCenc Cens = false

@@ -47,6 +47,13 @@ pub record Entry : Type 0 where
 abbrev pub entry : ℕ → ℕ → Entry
 entry a n = record { clear = a; protected = n }
 
+-- The first k entries of a list of clear and a list of protected lengths.
+unfoldable pub entries : List ℕ → List ℕ → ℕ → List Entry
+entries cs ps zero = []
+entries [] ps (suc k) = []
+entries (c ∷ cs) [] (suc k) = []
+entries (c ∷ cs) (p ∷ ps) (suc k) = entry c p ∷ entries cs ps k
+
 -- How many bytes the entries call for.
 unfoldable pub total : List Entry → ℕ
 total [] = 0

@@ -2,3 +2,5 @@ pub mod Layout
 pub mod WholeSample
 pub mod Machine
 pub mod Held
+pub mod Part
+pub mod Counters

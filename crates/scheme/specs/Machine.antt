@@ -17,6 +17,10 @@ pub record State : Type 0 where
   pub block : List ℕ
   pub held : List ℕ
 
+-- A state with nothing held.
+abbrev pub free : ℕ → List ℕ → State
+free p c = record { position = p; block = c; held = [] }
+
 -- A state, and the bytes that a step released.
 pub record Stepped : Type 0 where
   pub state : State

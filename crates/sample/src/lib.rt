@@ -1,0 +1,5 @@
+// A whole sample, locked and opened in place.
+pub mod position;
+pub mod refusal;
+mod runs;
+mod walk;
