@@ -14,3 +14,4 @@ pub mod Locating
 pub mod Feeding
 pub mod Undone
 pub mod Counters
+pub mod Unprotected

@@ -3,3 +3,4 @@ pub mod Writing
 pub mod RoundTrip
 pub mod Depends
 pub mod Examples
+pub mod Checking

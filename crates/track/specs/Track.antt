@@ -148,11 +148,14 @@ boxBytes p =
     ++ (head p
     ++ (p .kid .0 ++ cond (hasConstant (p .protected) (p .«iv_size»)) (16 ∷ p .«constant_iv» .0) [])))
 
+-- 1, 3 and 4 of parameters.
+abbrev pub parameterRows : Parameters → List Row
+parameterRows p =
+    row 1 (not (known (p .code))) ∷ row 3 (badVersion (p .version) (p .crypt) (p .skip)) ∷ row 4 (not (allowed p)) ∷ []
+
 -- The output's length is room.
 unfoldable pub writeRows : Parameters → ℕ → List Row
-writeRows p room =
-    row 1 (not (known (p .code))) ∷ row 3 (badVersion (p .version) (p .crypt) (p .skip)) ∷ row 4 (not (allowed p))
-    ∷ row 17 (ltb room (boxLength (p .protected) (p .«iv_size»))) ∷ []
+writeRows p room = parameterRows p ++ (row 17 (ltb room (boxLength (p .protected) (p .«iv_size»))) ∷ [])
 
 unfoldable pub writeBox : Parameters → ℕ → BoxWritten
 writeBox p room =

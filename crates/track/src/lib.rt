@@ -6,6 +6,7 @@ ghost use mathlib.Core.List.{[], _∷_, _++_};
 ghost use mathlib.Core.Path.{_≡_};
 ghost use Prim.Native.Nat.{_≤_};
 ghost use lib.ListN.{length, drop};
+ghost use Rattle.octets.specs.Answers.{answer};
 ghost use Rattle.octets.specs.Bytes.{filled, placed};
 ghost use Rattle.track.specs.Track as spec;
 ghost use Rattle.track.specs.Front.{front};
@@ -371,29 +372,31 @@ fn store(p: Parameters, out: &mut [u8])
     }
 }
 
+// The number of some parameters: 1, 3, 4.
+pub fn check(parameters: Parameters) -> u8
+    ensures { λ r. ⌜ r ≡ answer (spec.parameterRows parameters) ⌝ }
+{
+    let code = parameters.code;
+    if !names_scheme(code) {
+        return refusal::SCHEME;
+    }
+    if bad_version(parameters.version, parameters.crypt, parameters.skip) {
+        return refusal::VERSION;
+    }
+    if !allowed(parameters) {
+        return refusal::FIELDS;
+    }
+    refusal::DONE
+}
+
 // Writes the box of some parameters: 1, 3, 4, 17. Only the box's bytes change, and none if refused.
 pub fn write(parameters: Parameters, out: &mut [u8]) -> BoxWritten
     ensures { λ r. ⌜ (r ≡ spec.writeBox parameters (length (now (out .entry))))
         × (now (out .exit) ≡ spec.afterWriting parameters (now (out .entry))) ⌝ }
 {
-    let code = parameters.code;
-    if !names_scheme(code) {
-        return BoxWritten {
-            number: refusal::SCHEME,
-            length: 0,
-        };
-    }
-    if bad_version(parameters.version, parameters.crypt, parameters.skip) {
-        return BoxWritten {
-            number: refusal::VERSION,
-            length: 0,
-        };
-    }
-    if !allowed(parameters) {
-        return BoxWritten {
-            number: refusal::FIELDS,
-            length: 0,
-        };
+    let number = check(parameters);
+    if number != refusal::DONE {
+        return BoxWritten { number, length: 0 };
     }
     let length = box_length(parameters.protected, parameters.iv_size);
     if out.len() < length {
