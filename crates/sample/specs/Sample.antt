@@ -9,10 +9,11 @@ use Rattle.octets.specs.Bytes.{same, filled}
 use Rattle.aes.specs.Block.{roundKeys, encipher, decipher}
 use Rattle.modes.specs.declared.Direction.{Direction}
 use Rattle.track.specs.declared.Parameters.{Parameters}
-use Rattle.track.specs.Track.{zeros, fields, readRows}
-use Rattle.subsample.specs.Auxiliary.{mapRead, ivRead, auxiliaryRows}
+use Rattle.track.specs.Track.{zeros, fields, readRows, unprotected}
+use Rattle.subsample.specs.Auxiliary.{emptyMap, mapRead, ivRead, auxiliaryRows}
 use Rattle.scheme.specs.Part.{ciphered}
 use Rattle.sample.specs.declared.KeyFound.{KeyFound}
+use Rattle.sample.specs.declared.Inputs.{Inputs}
 
 -- The key record holds KID and key. For an unprotected track it is not looked at.
 unfoldable pub keyRows : Parameters → List ℕ → List Row
@@ -36,6 +37,20 @@ findKey p keys =
 unfoldable pub sampleRows : List ℕ → List ℕ → List ℕ → List ℕ → ℕ → List Row
 sampleRows code box aux keys n =
     readRows code box ++ (keyRows (fields code box) keys ++ auxiliaryRows (fields code box) n aux)
+
+-- What a table and the inputs make: after a refusal the inputs are those of an empty unprotected track.
+unfoldable pub handedOut : ℕ → Parameters → List ℕ → List ℕ → Inputs
+handedOut number p aux keys =
+    record {
+      number = number;
+      parameters = cond (eqb number 0) p unprotected;
+      key = record { 0 = cond (eqb number 0) (keyIn p keys) zeros };
+      map = cond (eqb number 0) (mapRead p aux) emptyMap;
+      iv = record { 0 = cond (eqb number 0) (ivRead p aux) zeros };
+    }
+
+unfoldable pub readInputs : List ℕ → List ℕ → List ℕ → List ℕ → ℕ → Inputs
+readInputs code box aux keys n = handedOut (answer (sampleRows code box aux keys n)) (fields code box) aux keys
 
 -- The sample's bytes under accepted inputs.
 unfoldable pub cipheredBy : Direction → List ℕ → List ℕ → List ℕ → List ℕ → List ℕ → List ℕ

@@ -6,7 +6,7 @@ use Prim.Native.Nat.{ℕ, _+_, _-_, _%_, _≤_}
 use native.Mathlib.Omega.{arith}
 use lib.Dec.{eqb, leb}
 use lib.ListN.{length, take}
-use borrow.Author.Tests.{eqb-true, leb-true, leb-false, le-leb, lt-leb}
+use borrow.Author.Tests.{eqb-true, eq-eqb, leb-true, leb-false, le-leb, lt-leb}
 use Rattle.octets.proofs.Bytes.{&&-left, &&-right}
 use Rattle.modes.specs.declared.Direction.{Direction}
 use Rattle.modes.specs.Modes.{Cipher}
@@ -17,7 +17,8 @@ use Rattle.scheme.specs.Layout.{schemeOf, isCiphered, total, mask, count
 use Rattle.scheme.specs.Machine.{Stepped, free, feedSample}
 use Rattle.scheme.specs.Held.{heldAt}
 use Rattle.scheme.specs.Part.{protectedEntries, entriesOf, heldUnder, fits, feedUnder, transformed}
-use Rattle.scheme.proofs.Walk.{SampleAsks}
+use Rattle.scheme.proofs.Walk.{Pattern, SampleAsks}
+use Rattle.scheme.proofs.SampleParts.{whole-asks}
 use Rattle.scheme.proofs.Under.{clear-fed}
 
 -- a size below what is left after an offset
@@ -102,3 +103,22 @@ module _ (E D : Cipher) (d : Direction) (p : Parameters) (m : SubsampleMap) (n x
           let k = clear-fed E D d p m n e x c [] xs in
           (rw (f, k), rw (f, k))
       go false f = (rw f, rw f)
+
+-- a whole sample fits
+pub fits-whole : (p : Parameters) (m : SubsampleMap) (n : ℕ) → p .protected ≡ 1 → n ≤ longest
+    → Pattern (schemeOf (p .code)) (p .crypt) (p .skip) → total (protectedEntries m n) ≡ n → fits p m n 0 n ≡ true
+unfolding heldUnder
+fits-whole p m n one l pattern t =
+    let w = whole-asks (p .crypt) (p .skip) (schemeOf (p .code)) (protectedEntries m n) n pattern (sym t) in
+    let e = protected-entries p m n one in
+    let from : heldUnder p m n 0 ≡ 0 = rw e (w .from) in
+    let to : heldUnder p m n (0 + n) ≡ 0 = rw e (w .to) in
+    rw (
+      fits-is p m n one 0 n,
+      le-leb n longest l,
+      pattern .first,
+      t,
+      le-leb (0 + n) n (omega arith),
+      eq-eqb (heldUnder p m n 0) 0 from,
+      eq-eqb (heldUnder p m n (0 + n)) 0 to,
+    )
