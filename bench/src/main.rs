@@ -1,5 +1,7 @@
 //! Times the library beside the second program on the same bytes: both sides in turn, medians of several rounds.
 
+use second::sample;
+use second::track::{self, Parameters};
 use std::time::Instant;
 
 const SIZE: usize = 16 << 20;
@@ -18,6 +20,70 @@ fn library_encipher(key: &[u8; 16], data: &mut [u8]) {
 fn library_decipher(key: &[u8; 16], data: &mut [u8]) {
     // As above.
     unsafe { ecb_decipher(key.as_ptr(), key.len(), data.as_mut_ptr(), data.len()) }
+}
+
+const KID: [u8; 16] = [1; 16];
+
+/// A sample of a protected track: version 1, IVs of 16 bytes or, in cbcs, a constant one.
+struct Track {
+    code: &'static [u8; 4],
+    track_box: Vec<u8>,
+    key_record: Vec<u8>,
+}
+
+impl Track {
+    fn new(code: &'static [u8; 4], crypt: u8, skip: u8, key: &[u8; 16]) -> Track {
+        let constant = code == b"cbcs";
+        let parameters = Parameters {
+            code: *code,
+            version: 1,
+            crypt,
+            skip,
+            protected: 1,
+            iv_size: if constant { 0 } else { 16 },
+            kid: KID,
+            constant: if constant { [2; 16] } else { [0; 16] },
+        };
+        Track {
+            code,
+            track_box: track::bytes(&parameters).expect("accepted parameters"),
+            key_record: [KID, *key].concat(),
+        }
+    }
+
+    /// Auxiliary data with so many equal entries, each with 100 clear bytes.
+    fn auxiliary(&self, entries: usize) -> Vec<u8> {
+        let mut auxiliary = vec![2; self.track_box[15].into()];
+        if entries > 0 {
+            auxiliary.extend((entries as u16).to_be_bytes());
+            let protected = (SIZE / entries) as u32 - 100;
+            for _ in 0..entries {
+                auxiliary.extend(100u16.to_be_bytes());
+                auxiliary.extend(protected.to_be_bytes());
+            }
+        }
+        auxiliary
+    }
+
+    /// A row for opening the whole sample.
+    fn row(&self, name: &str, entries: usize) {
+        let Track {
+            code,
+            track_box,
+            key_record,
+        } = self;
+        let auxiliary = self.auxiliary(entries);
+        row(
+            name,
+            |data| cenc::open(*code, track_box, &auxiliary, key_record, data).expect("accepted"),
+            |data| {
+                assert_eq!(
+                    sample::open(*code, track_box, &auxiliary, key_record, data),
+                    0
+                )
+            },
+        );
+    }
 }
 
 /// Milliseconds of one call.
@@ -63,4 +129,10 @@ fn main() {
         |data| library_decipher(&key, data),
         |data| second::aes::decipher_blocks(&key, data),
     );
+    let cenc = Track::new(b"cenc", 0, 0, &key);
+    let cbcs = Track::new(b"cbcs", 1, 9, &key);
+    cenc.row("sample opened, cenc", 0);
+    cenc.row("sample opened, cenc, 64 entries", 64);
+    cbcs.row("sample opened, cbcs 1:9", 0);
+    cbcs.row("sample opened, cbcs 1:9, 64 entries", 64);
 }

@@ -3,6 +3,7 @@ use crate::auxiliary;
 use crate::boxes;
 use crate::output;
 use crate::output::Buffer;
+use crate::samples;
 use crate::words;
 
 // As many bytes as a line can hold.
@@ -25,6 +26,12 @@ pub(crate) fn answer(
     }
     if octets::same(kind, b"aux") {
         return auxiliary::read(line, bytes, out, at);
+    }
+    if octets::same(kind, b"lock") {
+        return samples::lock(line, bytes, lent, out, at);
+    }
+    if octets::same(kind, b"open") {
+        return samples::open(line, bytes, lent, out, at);
     }
     output::malformed(out, at)
 }

@@ -3,6 +3,7 @@ mod auxiliary;
 mod boxes;
 mod calls;
 mod output;
+mod samples;
 mod values;
 mod words;
 

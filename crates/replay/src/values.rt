@@ -110,6 +110,28 @@ impl Place {
     }
 }
 
+// Two byte strings, one after the other in a buffer: where each ends.
+pub struct Places {
+    pub good: bool,
+    pub first: usize,
+    pub second: usize,
+}
+
+impl Places {
+    pub(crate) fn read(first: &[u8], second: &[u8], out: &mut [u8], at: usize) -> Places
+        requires { ⌜ at ≤ length (now out) ⌝ }
+        ensures { λ r. ⌜ (at ≤ r .first) × (r .first ≤ r .second) × (r .second ≤ length (now (out .entry))) ⌝ }
+    {
+        let a = Place::read(first, out, at);
+        let b = Place::read(second, out, a.end);
+        Places {
+            good: a.good && b.good,
+            first: a.end,
+            second: b.end,
+        }
+    }
+}
+
 // Puts the bytes that pairs of digits stand for into a buffer, unless a digit is none or has no pair.
 fn pairs(word: &[u8], out: &mut [u8], at: usize) -> bool
     requires { ⌜ at + length (now word) / 2 ≤ length (now out) ⌝ }

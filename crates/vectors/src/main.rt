@@ -1,5 +1,5 @@
-// The published vectors of FIPS 197 and SP 800-38A, chained blocks under changing keys, and document 01's samples 8 to 11,
-// a line each.
+// The published vectors of FIPS 197 and SP 800-38A, chained blocks under changing keys, and document 01's samples 1 to 5 and
+// 8 to 11, a line each.
 use aes::Block;
 use aes::Key;
 use aes::RoundKeys;
@@ -16,6 +16,18 @@ fn print_number(n: usize) {
 fn print_bytes(b: [u8; 16]) {
     io::print_hex(STDOUT_FILENO, octets::be64(&b, 0), 16);
     io::print_hex(STDOUT_FILENO, octets::be64(&b, 8), 16);
+}
+
+fn print_byte(b: u8) {
+    io::print_hex(STDOUT_FILENO, b as u64, 2);
+}
+
+fn print_all(s: &[u8]) {
+    let mut i = 0;
+    while i < s.len() {
+        print_byte(s[i]);
+        i += 1;
+    }
 }
 
 fn print_word(w: [u8; 4]) {
@@ -56,6 +68,29 @@ fn block_line(text: &[u8], b: Block) {
 // SP 800-38A, F.1: four blocks, and their lines.
 fn codebook(text: &[u8], keys: RoundKeys, inverse: bool, blocks: &mut [u8]) {
     ecb::transform(keys, inverse, blocks);
+    numbered_lines(text, blocks);
+}
+
+// A whole sample under the published key, and KID 1.
+fn whole(opening: bool, code: &[u8], track_box: &[u8], auxiliary: &[u8], data: &mut [u8]) {
+    let keys =
+        b"\x01\x01\x01\x01\x01\x01\x01\x01\x01\x01\x01\x01\x01\x01\x01\x01\x2b\x7e\x15\x16\x28\xae\xd2\xa6\xab\xf7\x15\x88\x09\xcf\x4f\x3c";
+    if opening {
+        sample::open(code, track_box, auxiliary, keys, data);
+    } else {
+        sample::lock(code, track_box, auxiliary, keys, data);
+    }
+}
+
+// SP 800-38A, F.2 and F.5: four blocks as a whole sample, and their lines.
+fn mode(text: &[u8], opening: bool, code: &[u8], iv: &[u8], blocks: &mut [u8]) {
+    let track_box =
+        b"\x00\x00\x00\x20tenc\x00\x00\x00\x00\x00\x00\x01\x10\x01\x01\x01\x01\x01\x01\x01\x01\x01\x01\x01\x01\x01\x01\x01\x01";
+    whole(opening, code, track_box, iv, blocks);
+    numbered_lines(text, blocks);
+}
+
+fn numbered_lines(text: &[u8], blocks: &[u8]) {
     for i in 0..4usize {
         numbered_line(text, i, blocks);
     }
@@ -71,6 +106,28 @@ fn numbered_line(text: &[u8], i: usize, blocks: &[u8]) {
         print_bytes(octets::sixteen(&blocks[at..]));
         print(b"\n");
     }
+}
+
+// SP 800-38A, F.2.1 and F.2.2.
+fn chaining() {
+    let iv = b"\x00\x01\x02\x03\x04\x05\x06\x07\x08\x09\x0a\x0b\x0c\x0d\x0e\x0f";
+    let mut plain =
+        *b"\x6b\xc1\xbe\xe2\x2e\x40\x9f\x96\xe9\x3d\x7e\x11\x73\x93\x17\x2a\xae\x2d\x8a\x57\x1e\x03\xac\x9c\x9e\xb7\x6f\xac\x45\xaf\x8e\x51\x30\xc8\x1c\x46\xa3\x5c\xe4\x11\xe5\xfb\xc1\x19\x1a\x0a\x52\xef\xf6\x9f\x24\x45\xdf\x4f\x9b\x17\xad\x2b\x41\x7b\xe6\x6c\x37\x10";
+    mode(b"SP 800-38A F.2.1 block ", false, b"cbc1", iv, &mut plain);
+    let mut cipher =
+        *b"\x76\x49\xab\xac\x81\x19\xb2\x46\xce\xe9\x8e\x9b\x12\xe9\x19\x7d\x50\x86\xcb\x9b\x50\x72\x19\xee\x95\xdb\x11\x3a\x91\x76\x78\xb2\x73\xbe\xd6\xb8\xe3\xc1\x74\x3b\x71\x16\xe6\x9e\x22\x22\x95\x16\x3f\xf1\xca\xa1\x68\x1f\xac\x09\x12\x0e\xca\x30\x75\x86\xe1\xa7";
+    mode(b"SP 800-38A F.2.2 block ", true, b"cbc1", iv, &mut cipher);
+}
+
+// SP 800-38A, F.5.1 and F.5.2.
+fn counter() {
+    let iv = b"\xf0\xf1\xf2\xf3\xf4\xf5\xf6\xf7\xf8\xf9\xfa\xfb\xfc\xfd\xfe\xff";
+    let mut plain =
+        *b"\x6b\xc1\xbe\xe2\x2e\x40\x9f\x96\xe9\x3d\x7e\x11\x73\x93\x17\x2a\xae\x2d\x8a\x57\x1e\x03\xac\x9c\x9e\xb7\x6f\xac\x45\xaf\x8e\x51\x30\xc8\x1c\x46\xa3\x5c\xe4\x11\xe5\xfb\xc1\x19\x1a\x0a\x52\xef\xf6\x9f\x24\x45\xdf\x4f\x9b\x17\xad\x2b\x41\x7b\xe6\x6c\x37\x10";
+    mode(b"SP 800-38A F.5.1 block ", false, b"cenc", iv, &mut plain);
+    let mut cipher =
+        *b"\x87\x4d\x61\x91\xb6\x20\xe3\x26\x1b\xef\x68\x64\x99\x0d\xb6\xce\x98\x06\xf6\x6b\x79\x70\xfd\xff\x86\x17\x18\x7b\xb9\xff\xfd\xff\x5a\xe4\xdf\x3e\xdb\xd5\xd3\x5e\x5b\x4f\x09\x02\x0d\xb0\x3e\xab\x1e\x03\x1d\xda\x2f\xbe\x03\xd1\x79\x21\x70\xa0\xf3\x00\x9c\xee";
+    mode(b"SP 800-38A F.5.2 block ", true, b"cenc", iv, &mut cipher);
 }
 
 // A key and a block of the chain.
@@ -160,6 +217,42 @@ fn back_all(text: &[u8], last: Chain) -> Chain {
     c
 }
 
+// A line with what locking makes of zeros.
+fn locked_line(text: &[u8], code: &[u8], track_box: &[u8], auxiliary: &[u8], data: &mut [u8]) {
+    whole(false, code, track_box, auxiliary, data);
+    print(text);
+    print_all(data);
+    print(b"\n");
+}
+
+// Document 01's samples 1 to 3, in cenc and cbc1 with IVs of 16 bytes.
+fn unpatterned_samples(track_box: &[u8]) {
+    let iv = [0u8; 16];
+    let mut first = [0u8; 20];
+    locked_line(b"sample 1 ", b"cenc", track_box, &iv, &mut first);
+    let mut second = [0u8; 20];
+    locked_line(b"sample 2 ", b"cbc1", track_box, &iv, &mut second);
+    let mut third = [0u8; 24];
+    locked_line(
+        b"sample 3 ",
+        b"cenc",
+        track_box,
+        b"\x00\x00\x00\x00\x00\x00\x00\x00\x00\x00\x00\x00\x00\x00\x00\x00\x00\x02\x00\x00\x00\x00\x00\x0a\x00\x04\x00\x00\x00\x0a",
+        &mut third,
+    );
+}
+
+// Samples 4 and 5, in cbcs 1:9 and cens 2:1.
+fn patterned_samples(cbcs: &[u8], cens: &[u8]) {
+    let iv = [0u8; 16];
+    let mut fourth = [0u8; 340];
+    locked_line(b"sample 4 ", b"cbcs", cbcs, b"", &mut fourth);
+    let mut even = [0u8; 64];
+    locked_line(b"sample 5 64 ", b"cens", cens, &iv, &mut even);
+    let mut odd = [0u8; 63];
+    locked_line(b"sample 5 63 ", b"cens", cens, &iv, &mut odd);
+}
+
 // A line with the number that reading auxiliary data answers.
 fn sample_line(text: &[u8], code: &[u8], track_box: &[u8], length: usize, auxiliary: &[u8]) {
     let read = subsample::read(code, track_box, length, auxiliary);
@@ -222,17 +315,21 @@ fn cbcs_samples(track_box: &[u8]) {
     sample_line(b"sample 10 65 entries ", b"cbcs", track_box, 65, &more);
 }
 
-// Document 01's samples 8 to 11.
+// Document 01's samples 1 to 5, and 8 to 11.
 fn samples() {
     let cenc =
         b"\x00\x00\x00\x20tenc\x00\x00\x00\x00\x00\x00\x01\x08\x01\x01\x01\x01\x01\x01\x01\x01\x01\x01\x01\x01\x01\x01\x01\x01";
+    let cbc1 =
+        b"\x00\x00\x00\x20tenc\x00\x00\x00\x00\x00\x00\x01\x10\x01\x01\x01\x01\x01\x01\x01\x01\x01\x01\x01\x01\x01\x01\x01\x01";
+    let cbcs =
+        b"\x00\x00\x00\x31tenc\x01\x00\x00\x00\x00\x19\x01\x00\x01\x01\x01\x01\x01\x01\x01\x01\x01\x01\x01\x01\x01\x01\x01\x01\x10\x00\x00\x00\x00\x00\x00\x00\x00\x00\x00\x00\x00\x00\x00\x00\x00";
+    let cens =
+        b"\x00\x00\x00\x20tenc\x01\x00\x00\x00\x00\x21\x01\x10\x01\x01\x01\x01\x01\x01\x01\x01\x01\x01\x01\x01\x01\x01\x01\x01";
+    unpatterned_samples(cbc1);
+    patterned_samples(cbcs, cens);
     cenc_samples(cenc);
-    cbc1_samples(
-        b"\x00\x00\x00\x20tenc\x00\x00\x00\x00\x00\x00\x01\x10\x01\x01\x01\x01\x01\x01\x01\x01\x01\x01\x01\x01\x01\x01\x01\x01",
-    );
-    cbcs_samples(
-        b"\x00\x00\x00\x31tenc\x01\x00\x00\x00\x00\x19\x01\x00\x01\x01\x01\x01\x01\x01\x01\x01\x01\x01\x01\x01\x01\x01\x01\x01\x10\x00\x00\x00\x00\x00\x00\x00\x00\x00\x00\x00\x00\x00\x00\x00\x00",
-    );
+    cbc1_samples(cbc1);
+    cbcs_samples(cbcs);
     sample_line(
         b"sample 11 short ",
         b"cenc",
@@ -277,6 +374,8 @@ fn main() {
     let mut cipher =
         *b"\x3a\xd7\x7b\xb4\x0d\x7a\x36\x60\xa8\x9e\xca\xf3\x24\x66\xef\x97\xf5\xd3\xd5\x85\x03\xb9\x69\x9d\xe7\x85\x89\x5a\x96\xfd\xba\xaf\x43\xb1\xcd\x7f\x59\x8e\xce\x23\x88\x1b\x00\xe3\xed\x03\x06\x88\x7b\x0c\x78\x5e\x27\xe8\xad\x3f\x82\x23\x20\x71\x04\x72\x5d\xd4";
     codebook(b"SP 800-38A F.1.2 block ", keys, true, &mut cipher);
+    chaining();
+    counter();
     let first = octets::sixteen(
         b"\x00\x01\x02\x03\x04\x05\x06\x07\x08\x09\x0a\x0b\x0c\x0d\x0e\x0f",
     );
