@@ -1,0 +1,99 @@
+-- The record that accepted pieces lead to: it is sound, and feeding moves it as the machine goes.
+use mathlib.Core.Bool.{Bool, true, false, cond, not, _&&_, _||_}
+use mathlib.Core.List.{List, [], _∷_, _++_, append-nil}
+use mathlib.Core.Path.{_≡_, refl, sym, ap, _∙_}
+use Prim.Native.Nat.{ℕ, zero, suc, _+_, _-_, _≤_, _<_}
+use native.Mathlib.Nat.{zero-add}
+use native.Mathlib.Omega.{arith}
+use lib.Dec.{eqb, leb, ltb}
+use lib.ListN.{length, take, drop, replicate, length-append}
+use lib.Seq.{take-at}
+use borrow.Author.Tests.{eq-eqb, ne-eqb, le-leb, ltb-false}
+use Rattle.octets.specs.Answers.{answer}
+use Rattle.aes.specs.Block.{roundKeys, encipher, decipher, encipher-length, decipher-length}
+use Rattle.modes.specs.declared.Direction.{Direction}
+use Rattle.modes.specs.Modes.{Cipher}
+use Rattle.track.specs.declared.Parameters.{Parameters}
+use Rattle.track.specs.Track.{parameterRows}
+use Rattle.subsample.specs.declared.SubsampleMap.{SubsampleMap}
+use Rattle.subsample.specs.Auxiliary.{longest, mapRows}
+use Rattle.scheme.specs.Layout.{schemeOf, mask, restartMask, count}
+use Rattle.scheme.specs.Machine.{State, Stepped, free, modeOf, feedSample}
+use Rattle.scheme.specs.Part.{entriesOf, heldUnder, feedUnder}
+use Rattle.scheme.proofs.Pieces.{Sized, heldAfter, Added, feed-append, feed-append-state, feed-position, feed-adds}
+use Rattle.scheme.proofs.Demand.{heldAt-is}
+use Rattle.stream.specs.declared.Stream.{Stream}
+use Rattle.stream.specs.Stream.{sound, stateOf, withState, due, feedRows, fedBy, feed, outputAfter, endRows, end}
+use Rattle.stream.specs.Demand3.{Call, Feeding, Ending, Reply, reply, countAt, dueAt, feeding, ending, replyAt, pieceAt, make}
+
+-- What a start sees to, of the parameters, the map and the declared length.
+pub record Rules (p : Parameters) (m : SubsampleMap) (n : ℕ) : Type 0 where
+  pub parameters : answer (parameterRows p) ≡ 0
+  pub short : n ≤ longest
+  pub entries : answer (mapRows (p .code) m n) ≡ 0
+  pub unprotected : (eqb (p .protected) 1 || eqb (m .count) 0) ≡ true
+
+module _ (d : Direction) (p : Parameters) (m : SubsampleMap) (n : ℕ) (key iv : List ℕ) where
+  abbrev E : Cipher
+  E = encipher (roundKeys key)
+
+  abbrev D : Cipher
+  D = decipher (roundKeys key)
+
+  -- the machine from a state on, and from the start
+  abbrev pub from : State → List ℕ → Stepped
+  from t xs = feedUnder E D d p m n t xs
+
+  abbrev pub fed : List ℕ → Stepped
+  fed a = from (free 0 iv) a
+
+  abbrev H : ℕ → ℕ
+  H x = heldUnder p m n x
+
+  -- the record after the pieces a
+  unfoldable pub at : List ℕ → Stream
+  at a =
+      record {
+        direction = d;
+        parameters = p;
+        length = n;
+        map = m;
+        position = fed a .state .position;
+        key = record { 0 = key };
+        block = fed a .state .block;
+        held = fed a .state .held ++ replicate (16 - length (fed a .state .held)) 0;
+        «held_count» = length (fed a .state .held);
+      }
+
+  abbrev Fits : State → Type 0
+  Fits t = length (t .held) ≡ H (t .position)
+
+  -- the machine's laws under parameters and a map
+  from-position : (t : State) (xs : List ℕ) → from t xs .state .position ≡ t .position + length xs
+  unfolding feedUnder feedSample
+  from-position t xs = feed-position _ _ _ _ _ _ _ t xs
+
+  from-adds : (t : State) (xs : List ℕ) → Fits t
+      → Added (modeOf (schemeOf (p .code))) (mask (schemeOf (p .code)) (p .crypt) (p .skip) (entriesOf p m n))
+      (length (t .held) + length xs) (from t xs)
+  unfolding feedUnder feedSample heldUnder
+  from-adds t xs h =
+      feed-adds E D (λ b l. encipher-length _ b) (λ b l. decipher-length _ b) d _ _ _ _ t xs
+      (h ∙ sym (heldAt-is (p .crypt) (p .skip) (entriesOf p m n) (schemeOf (p .code)) (t .position)))
+
+  from-held : (t : State) (xs : List ℕ) → Fits t → length (from t xs .state .held) ≡ H (t .position + length xs)
+  unfolding heldUnder
+  from-held t xs h =
+      from-adds t xs h .sound ∙ heldAt-is (p .crypt) (p .skip) (entriesOf p m n) (schemeOf (p .code)) (from t xs .state .position)
+      ∙ ap H (from-position t xs)
+
+  from-sum : (t : State) (xs : List ℕ) → Fits t → length (from t xs .released) + H (t .position + length xs) ≡ length (t .held) + length xs
+  from-sum t xs h = ap (λ (y : ℕ). length (from t xs .released) + y) (sym (from-held t xs h)) ∙ from-adds t xs h .sum
+
+  from-append-state : (t : State) (xs ys : List ℕ) → from t (xs ++ ys) .state ≡ from (from t xs .state) ys .state
+  unfolding feedUnder feedSample
+  from-append-state t xs ys = feed-append-state _ _ _ _ _ _ _ t xs ys
+
+  from-append : (t : State) (xs ys : List ℕ) → from t (xs ++ ys) .released ≡ from t xs .released ++ from (from t xs .state) ys .released
+  unfolding feedUnder feedSample
+  from-append t xs ys = feed-append _ _ _ _ _ _ _ t xs ys
