@@ -15,3 +15,4 @@ pub mod Feeding
 pub mod Undone
 pub mod Counters
 pub mod Unprotected
+pub mod Under

@@ -1,15 +1,22 @@
 -- A sample of clear bytes alone, such as that of an unprotected track: nothing is ciphered and nothing held.
-use mathlib.Core.Bool.{Bool, true, false, cond}
-use mathlib.Core.List.{List, [], _∷_, _++_, append-nil}
-use mathlib.Core.Path.{_≡_, refl, sym, ap, _∙_}
-use Prim.Native.Nat.{ℕ, _+_, _-_, _≤_, _<_}
+use mathlib.Core.Bool.{Bool, false}
+use mathlib.Core.List.{List, [], _∷_}
+use mathlib.Core.Path.{_≡_, refl, ap, _∙_}
+use Prim.Native.Nat.{ℕ, suc, _+_}
+use native.Mathlib.Nat.{add-zero}
 use native.Mathlib.Omega.{arith}
-use lib.ListN.{length, replicate, length-replicate, drop}
+use lib.ListN.{length, getD}
+use lib.Seq.{ext-getD}
+use Rattle.modes.specs.declared.Direction.{Direction}
+use Rattle.modes.specs.Modes.{Cipher}
 use Rattle.scheme.specs.declared.Scheme.{Scheme}
 use Rattle.scheme.specs.declared.Scheme.the-variants.{Cenc, Cbc1, Cens, Cbcs}
-use Rattle.scheme.specs.Layout.{Entry, entry}
+use Rattle.scheme.specs.Layout.{Entry, entry, isCiphered, restarts, marks, mask, restartMask}
+use Rattle.scheme.specs.WholeSample.{whole}
+use Rattle.scheme.specs.Machine.{Mode, plain, step, feed}
 use Rattle.scheme.specs.Held.{Place, Clear, place, inPlace, inBlock, heldAt}
-use Rattle.scheme.proofs.Positions.{place-law}
+use Rattle.scheme.proofs.Positions.{place-law, marks-at}
+use Rattle.scheme.proofs.Undone.{length-whole, unmarked-stay}
 
 place-clear : (n x : ℕ) → place (entry n 0 ∷ []) x ≡ Clear
 unfolding place
@@ -21,3 +28,29 @@ held-clear crypt skip n Cenc x = refl
 held-clear crypt skip n Cbc1 x = rw (place-clear n x)
 held-clear crypt skip n Cens x = refl
 held-clear crypt skip n Cbcs x = rw (place-clear n x)
+
+unmarked : (f : ℕ → ℕ → Bool) (n x : ℕ) → getD (marks f (entry n 0 ∷ [])) x false ≡ false
+unfolding inPlace
+unmarked f n x = marks-at f (entry n 0 ∷ []) x ∙ rw (place-clear n x)
+
+pub mask-clear : (s : Scheme) (crypt skip n x : ℕ) → getD (mask s crypt skip (entry n 0 ∷ [])) x false ≡ false
+unfolding mask
+mask-clear s crypt skip n x = unmarked (isCiphered s crypt skip) n x
+
+-- a machine that meets no mark passes every byte
+pub feed-unmarked : (E D : Cipher) (d : Direction) (k : Mode) (iv : List ℕ) (M F : List Bool) → ((x : ℕ) → getD M x false ≡ false)
+    → (p : ℕ) (c h xs : List ℕ)
+    → feed E D d k iv M F (record { position = p; block = c; held = h }) xs
+    ≡ record { state = record { position = p + length xs; block = c; held = h }; released = xs }
+unfolding feed step plain
+feed-unmarked E D d k iv M F e p c h [] = rw add-zero
+feed-unmarked E D d k iv M F e p c h (x ∷ xs) =
+    let s : p + suc (length xs) ≡ suc p + length xs = omega arith in
+    rw (e p, s, feed-unmarked E D d k iv M F e (suc p) c h xs)
+
+-- and the whole sample stays as it is
+pub whole-clear : (E D : Cipher) (iv : List ℕ) (crypt skip n : ℕ) (d : Direction) (s : Scheme) (xs : List ℕ)
+    → whole E D iv crypt skip (entry n 0 ∷ []) d s xs ≡ xs
+whole-clear E D iv crypt skip n d s xs =
+    ext-getD 0 (whole E D iv crypt skip (entry n 0 ∷ []) d s xs) xs (length-whole E D iv crypt skip (entry n 0 ∷ []) d s xs)
+    (λ i l. unmarked-stay E D iv crypt skip (entry n 0 ∷ []) d s xs i (mask-clear s crypt skip n i))
