@@ -17,8 +17,10 @@ use Rattle.track.specs.declared.Parameters.{Parameters}
 use Rattle.track.specs.Track.{parameterRows}
 use Rattle.subsample.specs.declared.SubsampleMap.{SubsampleMap}
 use Rattle.subsample.specs.Auxiliary.{longest, mapRows}
-use Rattle.scheme.specs.Layout.{schemeOf, mask, restartMask, count}
-use Rattle.scheme.specs.Machine.{State, Stepped, free, modeOf, feedSample}
+use Rattle.scheme.specs.declared.Scheme.{Scheme}
+use Rattle.scheme.specs.Layout.{schemeOf, Entry, mask, restartMask, count}
+use Rattle.scheme.specs.Machine.{State, Stepped, Mode, Counter, Chain, free, modeOf, feedSample}
+use Rattle.scheme.specs.Held.{heldAt}
 use Rattle.scheme.specs.Part.{entriesOf, heldUnder, feedUnder}
 use Rattle.scheme.proofs.Pieces.{Sized, heldAfter, Added, feed-append, feed-append-state, feed-position, feed-adds}
 use Rattle.scheme.proofs.Demand.{heldAt-is}
@@ -32,6 +34,15 @@ pub record Rules (p : Parameters) (m : SubsampleMap) (n : ℕ) : Type 0 where
   pub short : n ≤ longest
   pub entries : answer (mapRows (p .code) m n) ≡ 0
   pub unprotected : (eqb (p .protected) 1 || eqb (m .count) 0) ≡ true
+
+-- nothing is held at the start
+heldAt-start : (crypt skip : ℕ) (es : List Entry) (s : Scheme) → 0 ≡ heldAt crypt skip es s 0
+unfolding heldAfter count
+heldAt-start crypt skip es s = go (modeOf s) ∙ heldAt-is crypt skip es s 0
+  where
+    go : (k : Mode) → 0 ≡ heldAfter k (count [])
+    go Counter = refl
+    go Chain = refl
 
 module _ (d : Direction) (p : Parameters) (m : SubsampleMap) (n : ℕ) (key iv : List ℕ) where
   abbrev E : Cipher
@@ -97,3 +108,53 @@ module _ (d : Direction) (p : Parameters) (m : SubsampleMap) (n : ℕ) (key iv :
   from-append : (t : State) (xs ys : List ℕ) → from t (xs ++ ys) .released ≡ from t xs .released ++ from (from t xs .state) ys .released
   unfolding feedUnder feedSample
   from-append t xs ys = feed-append _ _ _ _ _ _ _ t xs ys
+
+  start-fits : Fits (free 0 iv)
+  unfolding heldUnder
+  start-fits = heldAt-start (p .crypt) (p .skip) (entriesOf p m n) (schemeOf (p .code))
+
+  -- ---- after the pieces a
+
+  module _ (a : List ℕ) where
+    at-position : fed a .state .position ≡ length a
+    at-position = from-position (free 0 iv) a ∙ zero-add (length a)
+
+    at-held : length (fed a .state .held) ≡ H (length a)
+    at-held = from-held (free 0 iv) a start-fits ∙ ap H (zero-add (length a))
+
+    fits-at : Fits (fed a .state)
+    fits-at = at-held ∙ ap H (sym at-position)
+
+    pub at-sum : length (fed a .released) + H (length a) ≡ length a
+    at-sum = omega (arith, from-adds (free 0 iv) a start-fits .sum, at-held)
+
+    state-at : stateOf (at a) ≡ fed a .state
+    unfolding at
+    state-at =
+        let h : List ℕ = fed a .state .held in
+        rw (take-at h (replicate (16 - length h) 0) (length h) refl)
+
+    at-sound : Rules p m n → length a ≤ n → sound (at a) ≡ true
+    unfolding sound at
+    at-sound r l =
+        rw (eq-eqb _ 0 (r .parameters), le-leb n longest (r .short), eq-eqb _ 0 (r .entries), r .unprotected, at-position, le-leb (length a) n l, eq-eqb _ _ at-held)
+
+    at-due : (k : ℕ) → due (at a) k ≡ dueAt H (length a) k
+    unfolding due dueAt countAt at
+    at-due k = rw (at-position, at-held) (omega (arith, at-sum))
+
+    module _ (piece : List ℕ) where
+      fed-by : fedBy (at a) piece ≡ from (fed a .state) piece
+      unfolding fedBy at
+      fed-by = ap (λ (t : State). from t piece) state-at
+
+      at-next : withState (at a) (fedBy (at a) piece .state) ≡ at (a ++ piece)
+      unfolding at
+      at-next = rw (fed-by, from-append-state (free 0 iv) a piece)
+
+      next-released : fed a .released ++ fedBy (at a) piece .released ≡ fed (a ++ piece) .released
+      next-released = rw fed-by (sym (from-append (free 0 iv) a piece))
+
+      next-size : length (fedBy (at a) piece .released) ≡ dueAt H (length a) (length piece)
+      unfolding dueAt countAt
+      next-size = rw fed-by (omega (arith, from-sum (fed a .state) piece fits-at, rw at-position at (from-sum (fed a .state) piece fits-at), at-sum, at-held))
