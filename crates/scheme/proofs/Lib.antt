@@ -16,3 +16,4 @@ pub mod Undone
 pub mod Counters
 pub mod Unprotected
 pub mod Under
+pub mod Allowed
