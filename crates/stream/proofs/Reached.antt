@@ -1,5 +1,5 @@
 -- The record that accepted pieces lead to: it is sound, and feeding moves it as the machine goes.
-use mathlib.Core.Bool.{Bool, true, false, cond, not, _&&_, _||_}
+use mathlib.Core.Bool.{Bool, true, false, cond, not, _&&_, _||_, true≢false}
 use mathlib.Core.List.{List, [], _∷_, _++_, append-nil}
 use mathlib.Core.Path.{_≡_, refl, sym, ap, _∙_}
 use Prim.Native.Nat.{ℕ, zero, suc, _+_, _-_, _≤_, _<_}
@@ -43,6 +43,18 @@ heldAt-start crypt skip es s = go (modeOf s) ∙ heldAt-is crypt skip es s 0
     go : (k : Mode) → 0 ≡ heldAfter k (count [])
     go Counter = refl
     go Chain = refl
+
+-- an end's number makes its reply
+ended : (b : Bool) → reply (cond (not b) 16 0) 0 ≡ cond b (reply 0 0) (reply 16 0)
+ended true = refl
+ended false = refl
+
+-- a feeding's number and count make its reply
+replied : (b c : Bool) (k : ℕ)
+    → reply (cond b 14 (cond c 15 0)) (cond (eqb (cond b 14 (cond c 15 0)) 0) k 0) ≡ cond b (reply 14 0) (cond c (reply 15 0) (reply 0 k))
+replied true c k = refl
+replied false true k = refl
+replied false false k = refl
 
 module _ (d : Direction) (p : Parameters) (m : SubsampleMap) (n : ℕ) (key iv : List ℕ) where
   abbrev E : Cipher
@@ -128,6 +140,14 @@ module _ (d : Direction) (p : Parameters) (m : SubsampleMap) (n : ℕ) (key iv :
     pub at-sum : length (fed a .released) + H (length a) ≡ length a
     at-sum = omega (arith, from-adds (free 0 iv) a start-fits .sum, at-held)
 
+    position-at : at a .position ≡ length a
+    unfolding at
+    position-at = at-position
+
+    length-at : at a .length ≡ n
+    unfolding at
+    length-at = refl
+
     state-at : stateOf (at a) ≡ fed a .state
     unfolding at
     state-at =
@@ -158,3 +178,79 @@ module _ (d : Direction) (p : Parameters) (m : SubsampleMap) (n : ℕ) (key iv :
       next-size : length (fedBy (at a) piece .released) ≡ dueAt H (length a) (length piece)
       unfolding dueAt countAt
       next-size = rw fed-by (omega (arith, from-sum (fed a .state) piece fits-at, rw at-position at (from-sum (fed a .state) piece fits-at), at-sum, at-held))
+
+    -- ---- one call more
+
+    -- what a call does to the record, and what it reports and releases
+    pub record Moves (c : Call) : Type 0 where
+      pub reply : make (at a) c .reply ≡ replyAt H n (length a) c
+      pub stream : make (at a) c .stream ≡ at (a ++ pieceAt H n (length a) c)
+      pub released : fed a .released ++ take (make (at a) c .reply .released) (make (at a) c .output)
+          ≡ fed (a ++ pieceAt H n (length a) c) .released
+      pub within : length (a ++ pieceAt H n (length a) c) ≤ n
+
+    module _ (r : Rules p m n) (l : length a ≤ n) where
+      at-number : (k room : ℕ) → answer (feedRows (at a) k room) ≡ cond (ltb n (length a + k)) 14 (cond (ltb room (dueAt H (length a) k)) 15 0)
+      unfolding feedRows answer
+      at-number k room = rw (at-sound r l, at-due k, length-at, position-at)
+
+      module _ (piece out : List ℕ) where
+        abbrev k : ℕ
+        k = length piece
+
+        abbrev room : ℕ
+        room = length out
+
+        abbrev N : ℕ
+        N = answer (feedRows (at a) k room)
+
+        fed-reply : reply N (cond (eqb N 0) (due (at a) k) 0) ≡ feeding H n (length a) k room
+        unfolding feeding
+        fed-reply = rw (at-number k room, at-due k) (replied (ltb n (length a + k)) (ltb room (dueAt H (length a) k)) (dueAt H (length a) k))
+
+        by-number : feeding H n (length a) k room .number ≡ N
+        by-number = sym (ap (λ (y : Reply). y .number) fed-reply)
+
+      next-stream : (piece : List ℕ) (q : Bool) → cond (q && not (eqb (length piece) 0)) (withState (at a) (fedBy (at a) piece .state)) (at a) ≡ at (a ++ cond q piece [])
+      next-stream piece false = ap at (sym (append-nil a))
+      next-stream [] true = ap at (sym (append-nil a))
+      next-stream (x ∷ piece) true = rw (ne-eqb (suc (length piece)) 0 (omega arith)) (at-next (x ∷ piece))
+
+      next-bytes : (piece out : List ℕ) (q : Bool)
+          → fed a .released ++ take (cond q (due (at a) (length piece)) 0) (cond q (fedBy (at a) piece .released ++ drop (due (at a) (length piece)) out) out)
+          ≡ fed (a ++ cond q piece []) .released
+      next-bytes piece out true =
+          rw (at-due (length piece), take-at (fedBy (at a) piece .released) (drop (dueAt H (length a) (length piece)) out) (dueAt H (length a) (length piece)) (next-size piece))
+          (next-released piece)
+      next-bytes piece out false = rw (append-nil, append-nil)
+
+      next-within : (piece : List ℕ) (b c q : Bool) → ltb n (length a + length piece) ≡ b → eqb (cond b 14 (cond c 15 0)) 0 ≡ q → length (a ++ cond q piece []) ≤ n
+      next-within piece b c false e f = rw append-nil l
+      next-within piece true true true e f = absurd (true≢false (sym f))
+      next-within piece true false true e f = absurd (true≢false (sym f))
+      next-within piece false c true e f = simp length-append (omega (arith, ltb-false n (length a + length piece) e))
+
+      moves-fed : (piece out : List ℕ) → Moves (Feeding piece out)
+      unfolding make feed outputAfter replyAt pieceAt
+      moves-fed piece out =
+          record {
+            reply = fed-reply piece out;
+            stream = rw (by-number piece out) (next-stream piece (eqb (N piece out) 0));
+            released = rw (by-number piece out) (next-bytes piece out (eqb (N piece out) 0));
+            within = rw (by-number piece out, at-number (length piece) (length out))
+                (next-within piece (ltb n (length a + length piece)) (ltb (length out) (dueAt H (length a) (length piece))) _ refl refl);
+          }
+
+      moves-end : Moves Ending
+      unfolding make end endRows replyAt pieceAt ending answer
+      moves-end =
+          record {
+            reply = rw (at-sound r l, length-at, position-at) (ended (eqb (length a) n));
+            stream = ap at (sym (append-nil a));
+            released = rw (append-nil, append-nil);
+            within = rw append-nil l;
+          }
+
+      pub moves : (c : Call) → Moves c
+      moves (Feeding piece out) = moves-fed piece out
+      moves Ending = moves-end
