@@ -1,1 +1,3 @@
 pub mod Reached
+pub mod Demand3
+pub mod Accepted
