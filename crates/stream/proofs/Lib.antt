@@ -1,3 +1,3 @@
 pub mod Reached
-pub mod Demand3
 pub mod Accepted
+pub mod Demand3
