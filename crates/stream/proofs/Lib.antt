@@ -1,3 +1,4 @@
 pub mod Reached
 pub mod Accepted
 pub mod Demand3
+pub mod Depends

@@ -92,7 +92,7 @@ module _ (d : Direction) (p : Parameters) (m : SubsampleMap) (n : ℕ) (key iv :
   Fits t = length (t .held) ≡ H (t .position)
 
   -- the machine's laws under parameters and a map
-  from-position : (t : State) (xs : List ℕ) → from t xs .state .position ≡ t .position + length xs
+  pub from-position : (t : State) (xs : List ℕ) → from t xs .state .position ≡ t .position + length xs
   unfolding feedUnder feedSample
   from-position t xs = feed-position _ _ _ _ _ _ _ t xs
 
@@ -104,7 +104,7 @@ module _ (d : Direction) (p : Parameters) (m : SubsampleMap) (n : ℕ) (key iv :
       feed-adds E D (λ b l. encipher-length _ b) (λ b l. decipher-length _ b) d _ _ _ _ t xs
       (h ∙ sym (heldAt-is (p .crypt) (p .skip) (entriesOf p m n) (schemeOf (p .code)) (t .position)))
 
-  from-held : (t : State) (xs : List ℕ) → Fits t → length (from t xs .state .held) ≡ H (t .position + length xs)
+  pub from-held : (t : State) (xs : List ℕ) → Fits t → length (from t xs .state .held) ≡ H (t .position + length xs)
   unfolding heldUnder
   from-held t xs h =
       from-adds t xs h .sound ∙ heldAt-is (p .crypt) (p .skip) (entriesOf p m n) (schemeOf (p .code)) (from t xs .state .position)
