@@ -1,14 +1,14 @@
 -- What an accepted start sees to, of the parameters, the map, the IV and the declared length.
-use mathlib.Core.Bool.{Bool, true, false, cond, not, _&&_, _||_}
+use mathlib.Core.Bool.{Bool, true, false, cond, _&&_, _||_}
 use mathlib.Core.List.{List, [], _∷_, _++_}
 use mathlib.Core.Path.{_≡_, refl, sym, ap, _∙_}
-use Prim.Native.Nat.{ℕ, zero, suc, _+_, _≤_, _<_}
+use Prim.Native.Nat.{ℕ, zero, suc, _+_, _<_}
 use native.Mathlib.Omega.{arith}
 use lib.Dec.{eqb, ltb, lit<}
-use lib.ListN.{length, getD, take, drop, length-take, length-append, length-replicate}
-use lib.Seq.{getD-take, getD-drop}
+use lib.ListN.{length, getD, take, drop}
+use lib.Seq.{getD-drop}
 use borrow.Author.Tests.{eqb-true, eqb-false, ltb-false, not-false}
-use Rattle.octets.specs.Answers.{Row, row, answer}
+use Rattle.octets.specs.Answers.{Row, answer}
 use Rattle.octets.specs.Bytes.{Bytes, listOf, filled}
 use Rattle.octets.proofs.Answers.{Refusals, none, more, done-head, done-tail, join-done, join-refused}
 use Rattle.octets.proofs.Bytes.{filled-listOf}
@@ -19,7 +19,7 @@ use Rattle.track.proofs.RoundTrip.{read-accepted}
 use Rattle.subsample.specs.Auxiliary.{limit, longest, countWritten, entryCount, mapRows, mapRead, ivRead, auxiliaryRows}
 use Rattle.subsample.proofs.Tables.{read-refusals}
 use Rattle.scheme.specs.declared.Scheme.the-variants.{Cbcs}
-use Rattle.scheme.specs.Layout.{schemeOf, isCiphered, total}
+use Rattle.scheme.specs.Layout.{schemeOf, total}
 use Rattle.scheme.specs.Part.{entriesOf}
 use Rattle.scheme.proofs.Allowed.{first-ciphered, cbcs-constant, allowed-protected, accepted-total}
 use Rattle.scheme.proofs.Under.{Begins}

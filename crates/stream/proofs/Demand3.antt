@@ -1,12 +1,12 @@
 -- Demand 3, of every started stream and every list of calls.
-use mathlib.Core.Bool.{Bool, true, false, cond, not, _&&_}
+use mathlib.Core.Bool.{Bool, true, false}
 use mathlib.Core.List.{List, [], _∷_, _++_, append-assoc, append-nil}
 use mathlib.Core.Path.{_≡_, refl, sym, ap, ap₂, _∙_}
 use Prim.Native.Nat.{ℕ, _+_, _-_, _≤_, _<_}
 use native.Mathlib.Omega.{arith}
 use lib.Dec.{eqb}
-use lib.ListN.{length, getD, take, drop, replicate, length-append, length-replicate}
-use lib.Seq.{take-append-seam, take-all, length-take-le}
+use lib.ListN.{length, getD, take, length-append}
+use lib.Seq.{take-append-seam}
 use borrow.Author.Tests.{eq-eqb, ne-eqb, eqb-true}
 use Rattle.octets.specs.Answers.{answer}
 use Rattle.aes.specs.Block.{roundKeys, encipher, decipher, encipher-length, decipher-length}
@@ -19,12 +19,11 @@ use Rattle.scheme.specs.Layout.{schemeOf, total}
 use Rattle.scheme.specs.Machine as machine
 use Rattle.scheme.specs.Part.{entriesOf, ciphered, heldUnder, feedUnder}
 use Rattle.scheme.proofs.Holding.{held-small}
-use Rattle.scheme.proofs.Undone.{length-whole}
 use Rattle.scheme.proofs.Under.{fed-released, fed-whole}
 use Rattle.sample.specs.Sample.{keyIn, sampleRows, cipheredBy, sampleAfter}
 use Rattle.stream.specs.declared.Stream.{Stream}
 use Rattle.stream.specs.Stream.{started, start, feedRows, feed, outputAfter, end}
-use Rattle.stream.specs.Demand3.{Call, Feeding, Ending, lent, Reply, reply, countAt, feeding, ending, replyAt, pieceAt, account, accepted, Made, make, run, recordAfter, replies, released, Unchanged, heldFrom, pieces, reached, Demand3}
+use Rattle.stream.specs.Demand3.{Call, Feeding, Ending, lent, Reply, reply, countAt, ending, replyAt, pieceAt, account, accepted, make, run, recordAfter, replies, released, Unchanged, heldFrom, pieces, Demand3}
 use Rattle.stream.proofs.Accepted.{rules, lengths, begins}
 use Rattle.stream.proofs.Reached.{Rules, fed, at, at-sum, Moves, moves}
 

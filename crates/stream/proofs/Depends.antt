@@ -2,7 +2,7 @@
 use mathlib.Core.Bool.{Bool, true, false, cond, not, _&&_, _||_}
 use mathlib.Core.List.{List, [], _∷_}
 use mathlib.Core.Path.{_≡_, refl, sym, ap, ap₂, _∙_}
-use Prim.Native.Nat.{ℕ, _+_, _-_, _≤_}
+use Prim.Native.Nat.{ℕ, _+_, _≤_}
 use native.Mathlib.Omega.{arith}
 use lib.Dec.{eqb, leb}
 use lib.ListN.{length, length-append, length-replicate}
@@ -12,7 +12,7 @@ use Rattle.octets.specs.Answers.{answer}
 use Rattle.octets.proofs.Answers.{done-head}
 use Rattle.octets.proofs.Bytes.{&&-right}
 use Rattle.track.specs.declared.Parameters.{Parameters}
-use Rattle.track.specs.Track.{hasConstant, boxLength, parameterRows, writeRows}
+use Rattle.track.specs.Track.{hasConstant, parameterRows, writeRows}
 use Rattle.track.proofs.Checking.{write-refused, write-done}
 use Rattle.track.proofs.Depends.{AlikeParameters, write-alike}
 use Rattle.subsample.specs.declared.SubsampleMap.{SubsampleMap}
@@ -21,7 +21,6 @@ use Rattle.scheme.specs.Layout.{schemeOf}
 use Rattle.scheme.specs.Part.{entriesOf, heldUnder}
 use Rattle.scheme.proofs.Holding.{held-small}
 use Rattle.stream.specs.declared.Stream.{Stream}
-use Rattle.stream.specs.declared.Fed.{Fed}
 use Rattle.stream.specs.Stream.{heldBy, sound, stateOf, withState, due, feedRows, fedBy, feed, endRows, end}
 use Rattle.stream.specs.Demand3.{Call, Feeding, Ending, Reply, reply, make, run, replies}
 use Rattle.stream.proofs.Reached.{from-position, from-held}
@@ -93,7 +92,7 @@ module _ {t u : Stream} (s : AlikeStreams t u) where
 -- ---- A list of calls.
 
 -- Records with all held places; a record of the code always has them.
-pub record Alike (t u : Stream) : Type 0 where
+pub record AlikeRecords (t u : Stream) : Type 0 where
   pub streams : AlikeStreams t u
   pub left : length (t .held) ≡ 16
   pub right : length (u .held) ≡ 16
@@ -130,8 +129,8 @@ done-sound : (t : Stream) (n room : ℕ) → answer (feedRows t n room) ≡ 0 �
 unfolding feedRows
 done-sound t n room h = not-false (sound t) (done-head 13 (not (sound t)) _ (omega arith) h)
 
-module _ {t u : Stream} (s : Alike t u) (piece piece′ : List ℕ) (l : length piece ≡ length piece′) where
-  next-alike : sound t ≡ true → Alike (withState t (fedBy t piece .state)) (withState u (fedBy u piece′ .state))
+module _ {t u : Stream} (s : AlikeRecords t u) (piece piece′ : List ℕ) (l : length piece ≡ length piece′) where
+  next-alike : sound t ≡ true → AlikeRecords (withState t (fedBy t piece .state)) (withState u (fedBy u piece′ .state))
   next-alike ok =
       let k : sound u ≡ true = sym (sound-alike (s .streams)) ∙ ok in
       record {
@@ -149,14 +148,14 @@ module _ {t u : Stream} (s : Alike t u) (piece piece′ : List ℕ) (l : length 
       }
 
   module _ (room room′ : ℕ) (e : room ≡ room′) where
-    stream-alike : Alike (feed t piece room .stream) (feed u piece′ room′ .stream)
+    stream-alike : AlikeRecords (feed t piece room .stream) (feed u piece′ room′ .stream)
     unfolding feed
     stream-alike =
         rw (← l, ← e, ← (rows-alike (s .streams) (length piece) room))
         (go (eqb (answer (feedRows t (length piece) room)) 0) (not (eqb (length piece) 0)) refl)
       where
         go : (b c : Bool) → eqb (answer (feedRows t (length piece) room)) 0 ≡ b
-            → Alike (cond (b && c) (withState t (fedBy t piece .state)) t) (cond (b && c) (withState u (fedBy u piece′ .state)) u)
+            → AlikeRecords (cond (b && c) (withState t (fedBy t piece .state)) t) (cond (b && c) (withState u (fedBy u piece′ .state)) u)
         go true true f = next-alike (done-sound t (length piece) room (eqb-true (answer (feedRows t (length piece) room)) 0 f))
         go true false f = s
         go false c f = s
@@ -169,7 +168,7 @@ pub data AlikeCalls : List Call → List Call → Type 0 where
   ending : {cs cs′ : List Call} → AlikeCalls cs cs′ → AlikeCalls (Ending ∷ cs) (Ending ∷ cs′)
 
 -- they get the same replies
-pub run-alike : {cs cs′ : List Call} → AlikeCalls cs cs′ → {t u : Stream} → Alike t u → replies (run t cs) ≡ replies (run u cs′)
+pub run-alike : {cs cs′ : List Call} → AlikeCalls cs cs′ → {t u : Stream} → AlikeRecords t u → replies (run t cs) ≡ replies (run u cs′)
 unfolding run replies make
 run-alike none s = refl
 run-alike (feeding piece piece′ out out′ l e c) s =

@@ -2,3 +2,4 @@ pub mod Reached
 pub mod Accepted
 pub mod Demand3
 pub mod Depends
+pub mod Samples

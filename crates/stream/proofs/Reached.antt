@@ -2,10 +2,10 @@
 use mathlib.Core.Bool.{Bool, true, false, cond, not, _&&_, _||_, true≢false}
 use mathlib.Core.List.{List, [], _∷_, _++_, append-nil}
 use mathlib.Core.Path.{_≡_, refl, sym, ap, _∙_}
-use Prim.Native.Nat.{ℕ, zero, suc, _+_, _-_, _≤_, _<_}
+use Prim.Native.Nat.{ℕ, suc, _+_, _-_, _≤_}
 use native.Mathlib.Nat.{zero-add}
 use native.Mathlib.Omega.{arith}
-use lib.Dec.{eqb, leb, ltb}
+use lib.Dec.{eqb, ltb}
 use lib.ListN.{length, take, drop, replicate, length-append}
 use lib.Seq.{take-at}
 use borrow.Author.Tests.{eq-eqb, ne-eqb, le-leb, ltb-false}
@@ -18,11 +18,11 @@ use Rattle.track.specs.Track.{parameterRows}
 use Rattle.subsample.specs.declared.SubsampleMap.{SubsampleMap}
 use Rattle.subsample.specs.Auxiliary.{longest, mapRows}
 use Rattle.scheme.specs.declared.Scheme.{Scheme}
-use Rattle.scheme.specs.Layout.{schemeOf, Entry, mask, restartMask, count}
+use Rattle.scheme.specs.Layout.{schemeOf, Entry, mask, count}
 use Rattle.scheme.specs.Machine.{State, Stepped, Mode, Counter, Chain, free, modeOf, feedSample}
 use Rattle.scheme.specs.Held.{heldAt}
 use Rattle.scheme.specs.Part.{entriesOf, heldUnder, feedUnder}
-use Rattle.scheme.proofs.Pieces.{Sized, heldAfter, Added, feed-append, feed-append-state, feed-position, feed-adds}
+use Rattle.scheme.proofs.Pieces.{heldAfter, Added, feed-append, feed-append-state, feed-position, feed-adds}
 use Rattle.scheme.proofs.Demand.{heldAt-is}
 use Rattle.stream.specs.declared.Stream.{Stream}
 use Rattle.stream.specs.Stream.{sound, stateOf, withState, due, feedRows, fedBy, feed, outputAfter, endRows, end}
