@@ -1,4 +1,5 @@
 // A whole sample, locked and opened in place.
+pub mod part;
 pub mod position;
 pub mod refusal;
 mod runs;

@@ -17,3 +17,4 @@ pub mod Counters
 pub mod Unprotected
 pub mod Under
 pub mod Allowed
+pub mod Fitting

@@ -73,9 +73,10 @@ loop-less : tie.Need-loop-less Inv-loop μ-loop
 loop-less c = omega arith
 
 loop-again : tie.Need-loop-again Inv-loop μ-loop
-loop-again c =
-    (locate-next (c .before .before .before .loop .inv .0) _ _ (here (c .before .before)) (c .before .if1 .left) (c .if2 .left) (protects (c .before .before) .fits),
-    omega arith)
+loop-again c = (
+  locate-next (c .before .before .before .loop .inv .0) _ _ (here (c .before .before)) (c .before .if1 .left) (c .if2 .left) (protects (c .before .before) .fits),
+  omega arith,
+)
 
 returns-3 : tie.Need-returns-3 Inv-loop μ-loop
 returns-3 c = locate-none (c .before .loop .inv .0) (no-more _ _ _ _ (c .loop-test .left))
