@@ -23,7 +23,7 @@ use Rattle.scheme.proofs.Holding.{held-small}
 use Rattle.stream.specs.declared.Stream.{Stream}
 use Rattle.stream.specs.Stream.{heldBy, sound, stateOf, withState, due, feedRows, fedBy, feed, endRows, end}
 use Rattle.stream.specs.Demand3.{Call, Feeding, Ending, Reply, reply, make, run, replies}
-use Rattle.stream.proofs.Reached.{from-position, from-held}
+use Rattle.stream.proofs.Sound.{next-position, next-held, next-places, done-sound}
 
 -- ---- Parameters.
 
@@ -97,38 +97,6 @@ pub record AlikeRecords (t u : Stream) : Type 0 where
   pub left : length (t .held) ≡ 16
   pub right : length (u .held) ≡ 16
 
--- a sound record with all held places: where a piece leads
-module _ (t : Stream) (w : length (t .held) ≡ 16) (ok : sound t ≡ true) (piece : List ℕ) where
-  held-is : t .«held_count» ≡ heldBy t (t .position)
-  unfolding sound
-  held-is = eqb-true (t .«held_count») (heldBy t (t .position)) 
-      (&&-right
-      (eqb (answer (parameterRows (t .parameters))) 0 && leb (t .length) longest
-      && eqb (answer (mapRows (t .parameters .code) (t .map) (t .length))) 0
-      && (eqb (t .parameters .protected) 1 || eqb (t .map .count) 0) && leb (t .position) (t .length)) _ ok)
-
-  few : (x : ℕ) → heldBy t x ≤ 15
-  unfolding heldUnder
-  few x = held-small (t .parameters .crypt) (t .parameters .skip) (schemeOf (t .parameters .code)) (entriesOf (t .parameters) (t .map) (t .length)) x
-
-  fits : length (stateOf t .held) ≡ heldBy t (t .position)
-  fits = length-take-le (t .«held_count») (t .held) (omega (arith, held-is, few (t .position))) ∙ held-is
-
-  next-position : fedBy t piece .state .position ≡ t .position + length piece
-  unfolding fedBy
-  next-position = from-position (t .direction) (t .parameters) (t .map) (t .length) (t .key .0) [] (stateOf t) piece
-
-  next-held : length (fedBy t piece .state .held) ≡ heldBy t (t .position + length piece)
-  unfolding fedBy
-  next-held = from-held (t .direction) (t .parameters) (t .map) (t .length) (t .key .0) [] (stateOf t) piece fits
-
-  next-places : length (withState t (fedBy t piece .state) .held) ≡ 16
-  next-places = simp (length-append, length-replicate) (omega (arith, next-held, few (t .position + length piece)))
-
-done-sound : (t : Stream) (n room : ℕ) → answer (feedRows t n room) ≡ 0 → sound t ≡ true
-unfolding feedRows
-done-sound t n room h = not-false (sound t) (done-head 13 (not (sound t)) _ (omega arith) h)
-
 module _ {t u : Stream} (s : AlikeRecords t u) (piece piece′ : List ℕ) (l : length piece ≡ length piece′) where
   next-alike : sound t ≡ true → AlikeRecords (withState t (fedBy t piece .state)) (withState u (fedBy u piece′ .state))
   next-alike ok =
@@ -138,13 +106,13 @@ module _ {t u : Stream} (s : AlikeRecords t u) (piece piece′ : List ℕ) (l : 
           parameters = s .streams .parameters;
           length = s .streams .length;
           map = s .streams .map;
-          position = next-position t (s .left) ok piece ∙ rw (s .streams .position, l) (sym (next-position u (s .right) k piece′));
-          held-count = next-held t (s .left) ok piece
+          position = next-position t ok (s .left) piece ∙ rw (s .streams .position, l) (sym (next-position u k (s .right) piece′));
+          held-count = next-held t ok (s .left) piece
               ∙ rw (s .streams .position, s .streams .map, s .streams .length, l, held-alike (s .streams .parameters) (u .map) (u .length) (u .position + length piece′))
-              (sym (next-held u (s .right) k piece′));
+              (sym (next-held u k (s .right) piece′));
         };
-        left = next-places t (s .left) ok piece;
-        right = next-places u (s .right) k piece′;
+        left = next-places t ok (s .left) piece;
+        right = next-places u k (s .right) piece′;
       }
 
   module _ (room room′ : ℕ) (e : room ≡ room′) where

@@ -36,7 +36,7 @@ pub record Rules (p : Parameters) (m : SubsampleMap) (n : ℕ) : Type 0 where
   pub unprotected : (eqb (p .protected) 1 || eqb (m .count) 0) ≡ true
 
 -- nothing is held at the start
-heldAt-start : (crypt skip : ℕ) (es : List Entry) (s : Scheme) → 0 ≡ heldAt crypt skip es s 0
+pub heldAt-start : (crypt skip : ℕ) (es : List Entry) (s : Scheme) → 0 ≡ heldAt crypt skip es s 0
 unfolding heldAfter count
 heldAt-start crypt skip es s = go (modeOf s) ∙ heldAt-is crypt skip es s 0
   where
