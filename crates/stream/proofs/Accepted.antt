@@ -66,7 +66,8 @@ below-take (suc n) (x ∷ s) h zero = h 0
 below-take (suc n) (x ∷ s) h (suc i) = below-take n s (λ j. h (suc j)) i
 
 module _ (code box aux : List ℕ) (hb : (i : ℕ) → getD box i 0 < 256) (ha : (i : ℕ) → getD aux i 0 < 256) where
-  constant-bytes : hasConstant (fields code box .protected) (fields code box .«iv_size») ≡ true → Bytes 16 (fields code box .«constant_iv» .0)
+  constant-bytes : hasConstant (fields code box .protected) (fields code box .«iv_size») ≡ true
+      → Bytes 16 (fields code box .«constant_iv» .0)
   unfolding fields
   constant-bytes e = rw e (below-filled 16 (drop 33 box) (λ i. rw (getD-drop 33 box i 0) (hb (33 + i))))
 
@@ -103,7 +104,8 @@ module _ (code box aux keys : List ℕ) (n : ℕ) (h : answer (sampleRows code b
   unfolding mapRead entryCount
   none-written = go (eqb (p .protected) 1) refl
     where
-      go : (b : Bool) → eqb (p .protected) 1 ≡ b → (b || eqb (cond (b && ltb (p .«iv_size») (length aux)) (countWritten p aux) 0) 0) ≡ true
+      go : (b : Bool) → eqb (p .protected) 1 ≡ b
+          → (b || eqb (cond (b && ltb (p .«iv_size») (length aux)) (countWritten p aux) 0) 0) ≡ true
       go true e = refl
       go false e = refl
 

@@ -43,9 +43,11 @@ module _ (d : Direction) (p : Parameters) (m : SubsampleMap) (n : ℕ) (key iv :
   module _ (r : Rules p m n) where
     runs-none : (a : List ℕ) → length a ≤ n → Runs a []
     unfolding run recordAfter replies released account accepted
-    runs-none a l = record { replies = refl; last = rw append-nil; released = rw (append-nil, append-nil); within = rw append-nil l }
+    runs-none a l =
+        record { replies = refl; last = rw append-nil; released = rw (append-nil, append-nil); within = rw append-nil l }
 
-    runs-more : (c : Call) (cs : List Call) (a : List ℕ) → Moves d p m n key iv a c → Runs (a ++ pieceAt H n (length a) c) cs → Runs a (c ∷ cs)
+    runs-more : (c : Call) (cs : List Call) (a : List ℕ) → Moves d p m n key iv a c
+        → Runs (a ++ pieceAt H n (length a) c) cs → Runs a (c ∷ cs)
     unfolding run recordAfter replies released account accepted
     runs-more c cs a s t =
         let q : List ℕ = pieceAt H n (length a) c in
@@ -64,15 +66,19 @@ module _ (d : Direction) (p : Parameters) (m : SubsampleMap) (n : ℕ) (key iv :
 
     runs : (calls : List Call) (a : List ℕ) → length a ≤ n → Runs a calls
     runs [] a l = runs-none a l
-    runs (c ∷ cs) a l = let s = moves d p m n key iv a r l c in runs-more c cs a s (runs cs (a ++ pieceAt H n (length a) c) (s .within))
+    runs (c ∷ cs) a l =
+        let s = moves d p m n key iv a r l c in
+        runs-more c cs a s (runs cs (a ++ pieceAt H n (length a) c) (s .within))
 
 -- ---- A refused call.
 
 module _ (t : Stream) where
-  unchanged-fed : (piece out : List ℕ) → (make t (Feeding piece out) .reply .number ≡ 0 → ⊥) → Unchanged t (Feeding piece out)
+  unchanged-fed : (piece out : List ℕ)
+      → (make t (Feeding piece out) .reply .number ≡ 0 → ⊥) → Unchanged t (Feeding piece out)
   unfolding make feed outputAfter lent
   unchanged-fed piece out h =
-      let e : eqb (answer (feedRows t (length piece) (length out))) 0 ≡ false = ne-eqb (answer (feedRows t (length piece) (length out))) 0 h in
+      let e : eqb (answer (feedRows t (length piece) (length out))) 0 ≡ false =
+      ne-eqb (answer (feedRows t (length piece) (length out))) 0 h in
       record { stream = rw e; output = rw e; none = rw e }
 
   unchanged : (c : Call) → (make t c .reply .number ≡ 0 → ⊥) → Unchanged t c
@@ -82,8 +88,8 @@ module _ (t : Stream) where
 
 -- ---- From a start.
 
-module _ (d : Direction) (code box aux keys : List ℕ) (n : ℕ) (hb : (i : ℕ) → getD box i 0 < 256) (ha : (i : ℕ) → getD aux i 0 < 256)
-    (h : start d code box aux keys n .number ≡ 0) (calls : List Call) where
+module _ (d : Direction) (code box aux keys : List ℕ) (n : ℕ) (hb : (i : ℕ) → getD box i 0 < 256)
+    (ha : (i : ℕ) → getD aux i 0 < 256) (h : start d code box aux keys n .number ≡ 0) (calls : List Call) where
   abbrev p : Parameters
   p = fields code box
 
@@ -141,15 +147,15 @@ module _ (d : Direction) (code box aux keys : List ℕ) (n : ℕ) (hb : (i : ℕ
         let u : x ≤ length xs = omega (arith, ap length e, length-append a rest) in
         rw whole-is
         (rw (t, l) at
-        (fed-released (encipher (roundKeys key)) (decipher (roundKeys key)) (λ b k. encipher-length _ b) (λ b k. decipher-length _ b) d p m iv
-        (begins code box aux keys n accepts hb ha) xs adds-up x u))
+        (fed-released (encipher (roundKeys key)) (decipher (roundKeys key)) (λ b k. encipher-length _ b)
+        (λ b k. decipher-length _ b) d p m iv (begins code box aux keys n accepts hb ha) xs adds-up x u))
 
     all-of-it : fed d p m n key iv xs .released ≡ sampleAfter d code box aux keys xs
     all-of-it =
         rw whole-is
         (rw l at
-        (fed-whole (encipher (roundKeys key)) (decipher (roundKeys key)) (λ b k. encipher-length _ b) (λ b k. decipher-length _ b) d p m iv
-        (begins code box aux keys n accepts hb ha) xs adds-up))
+        (fed-whole (encipher (roundKeys key)) (decipher (roundKeys key)) (λ b k. encipher-length _ b)
+        (λ b k. decipher-length _ b) d p m iv (begins code box aux keys n accepts hb ha) xs adds-up))
 
   end-at : (q : Bool) → eqb x n ≡ q → ending (heldFrom code box aux n) n x .number ≡ 0 → x ≡ n
   unfolding ending
@@ -167,9 +173,9 @@ module _ (d : Direction) (code box aux keys : List ℕ) (n : ℕ) (hb : (i : ℕ
   unfolding heldUnder
   few = held-small (p .crypt) (p .skip) (schemeOf (p .code)) (entriesOf p m n) x
 
-  pub demand3 : Demand3 d code box aux keys n calls
+  holds : Demand3 d code box aux keys n calls
   unfolding countAt
-  demand3 =
+  holds =
       record {
         replies = rw begun (ran .replies);
         bytes = λ xs rest e l. joined ∙ begins-with xs l rest e;
@@ -181,3 +187,10 @@ module _ (d : Direction) (code box aux keys : List ℕ) (n : ℕ) (hb : (i : ℕ
         all = λ z. joined ∙ all-of-it a (end-only z);
         refused = unchanged;
       }
+
+-- For every direction, code, box, auxiliary data, key record and declared length that a start accepts, and every list of calls.
+pub demand3 : (d : Direction) (code box aux keys : List ℕ) (n : ℕ)
+    → ((i : ℕ) → getD box i 0 < 256) → ((i : ℕ) → getD aux i 0 < 256)
+    → start d code box aux keys n .number ≡ 0
+    → (calls : List Call) → Demand3 d code box aux keys n calls
+demand3 = holds

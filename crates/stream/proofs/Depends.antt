@@ -1,27 +1,21 @@
 -- What feeding and ending answer depends on: not on key, KID or IV bytes, nor on the counter or chain, the held bytes or the piece's.
-use mathlib.Core.Bool.{Bool, true, false, cond, not, _&&_, _||_}
+use mathlib.Core.Bool.{Bool, true, false, cond, not, _&&_}
 use mathlib.Core.List.{List, [], _∷_}
 use mathlib.Core.Path.{_≡_, refl, sym, ap, ap₂, _∙_}
 use Prim.Native.Nat.{ℕ, _+_, _≤_}
 use native.Mathlib.Omega.{arith}
-use lib.Dec.{eqb, leb}
-use lib.ListN.{length, length-append, length-replicate}
-use lib.Seq.{length-take-le}
-use borrow.Author.Tests.{eqb-true, eqb-false, eq-eqb, ne-eqb, not-false}
+use lib.Dec.{eqb}
+use lib.ListN.{length}
+use borrow.Author.Tests.{eqb-true, eqb-false, eq-eqb, ne-eqb}
 use Rattle.octets.specs.Answers.{answer}
-use Rattle.octets.proofs.Answers.{done-head}
-use Rattle.octets.proofs.Bytes.{&&-right}
 use Rattle.track.specs.declared.Parameters.{Parameters}
 use Rattle.track.specs.Track.{hasConstant, parameterRows, writeRows}
 use Rattle.track.proofs.Checking.{write-refused, write-done}
 use Rattle.track.proofs.Depends.{AlikeParameters, write-alike}
 use Rattle.subsample.specs.declared.SubsampleMap.{SubsampleMap}
-use Rattle.subsample.specs.Auxiliary.{longest, mapRows}
-use Rattle.scheme.specs.Layout.{schemeOf}
 use Rattle.scheme.specs.Part.{entriesOf, heldUnder}
-use Rattle.scheme.proofs.Holding.{held-small}
 use Rattle.stream.specs.declared.Stream.{Stream}
-use Rattle.stream.specs.Stream.{heldBy, sound, stateOf, withState, due, feedRows, fedBy, feed, endRows, end}
+use Rattle.stream.specs.Stream.{sound, withState, due, feedRows, fedBy, feed, endRows, end}
 use Rattle.stream.specs.Demand3.{Call, Feeding, Ending, Reply, reply, make, run, replies}
 use Rattle.stream.proofs.Sound.{next-position, next-held, next-places, done-sound}
 
@@ -65,7 +59,16 @@ module _ {t u : Stream} (s : AlikeStreams t u) where
   sound-alike : sound t ≡ sound u
   unfolding sound
   sound-alike =
-      rw (parameters-alike (s .parameters), held-alike (s .parameters) (t .map) (t .length) (t .position), s .parameters .code, s .parameters .protected, s .length, s .map, s .position, s .held-count)
+      rw (
+        parameters-alike (s .parameters),
+        held-alike (s .parameters) (t .map) (t .length) (t .position),
+        s .parameters .code,
+        s .parameters .protected,
+        s .length,
+        s .map,
+        s .position,
+        s .held-count,
+      )
 
   due-alike : (n : ℕ) → due t n ≡ due u n
   unfolding due
@@ -108,7 +111,13 @@ module _ {t u : Stream} (s : AlikeRecords t u) (piece piece′ : List ℕ) (l : 
           map = s .streams .map;
           position = next-position t ok (s .left) piece ∙ rw (s .streams .position, l) (sym (next-position u k (s .right) piece′));
           held-count = next-held t ok (s .left) piece
-              ∙ rw (s .streams .position, s .streams .map, s .streams .length, l, held-alike (s .streams .parameters) (u .map) (u .length) (u .position + length piece′))
+              ∙ rw (
+                s .streams .position,
+                s .streams .map,
+                s .streams .length,
+                l,
+                held-alike (s .streams .parameters) (u .map) (u .length) (u .position + length piece′),
+              )
               (sym (next-held u k (s .right) piece′));
         };
         left = next-places t ok (s .left) piece;
@@ -123,7 +132,8 @@ module _ {t u : Stream} (s : AlikeRecords t u) (piece piece′ : List ℕ) (l : 
         (go (eqb (answer (feedRows t (length piece) room)) 0) (not (eqb (length piece) 0)) refl)
       where
         go : (b c : Bool) → eqb (answer (feedRows t (length piece) room)) 0 ≡ b
-            → AlikeRecords (cond (b && c) (withState t (fedBy t piece .state)) t) (cond (b && c) (withState u (fedBy u piece′ .state)) u)
+            → AlikeRecords (cond (b && c) (withState t (fedBy t piece .state)) t)
+            (cond (b && c) (withState u (fedBy u piece′ .state)) u)
         go true true f = next-alike (done-sound t (length piece) room (eqb-true (answer (feedRows t (length piece) room)) 0 f))
         go true false f = s
         go false c f = s
@@ -136,12 +146,14 @@ pub data AlikeCalls : List Call → List Call → Type 0 where
   ending : {cs cs′ : List Call} → AlikeCalls cs cs′ → AlikeCalls (Ending ∷ cs) (Ending ∷ cs′)
 
 -- they get the same replies
-pub run-alike : {cs cs′ : List Call} → AlikeCalls cs cs′ → {t u : Stream} → AlikeRecords t u → replies (run t cs) ≡ replies (run u cs′)
+pub run-alike : {cs cs′ : List Call} → AlikeCalls cs cs′ → {t u : Stream} → AlikeRecords t u
+    → replies (run t cs) ≡ replies (run u cs′)
 unfolding run replies make
 run-alike none s = refl
 run-alike (feeding piece piece′ out out′ l e c) s =
     ap₂ (λ (y : Reply) (ys : List Reply). y ∷ ys)
-    (ap₂ reply (feed-alike (s .streams) piece piece′ (length out) (length out′) l e) (released-alike (s .streams) piece piece′ (length out) (length out′) l e))
+    (ap₂ reply (feed-alike (s .streams) piece piece′ (length out) (length out′) l e)
+    (released-alike (s .streams) piece piece′ (length out) (length out′) l e))
     (run-alike c (stream-alike s piece piece′ l (length out) (length out′) e))
 run-alike (ending c) s =
     ap₂ (λ (y : Reply) (ys : List Reply). y ∷ ys) (ap (λ (n : ℕ). reply n 0) (end-alike (s .streams))) (run-alike c s)

@@ -51,7 +51,8 @@ ended false = refl
 
 -- a feeding's number and count make its reply
 replied : (b c : Bool) (k : ℕ)
-    → reply (cond b 14 (cond c 15 0)) (cond (eqb (cond b 14 (cond c 15 0)) 0) k 0) ≡ cond b (reply 14 0) (cond c (reply 15 0) (reply 0 k))
+    → reply (cond b 14 (cond c 15 0)) (cond (eqb (cond b 14 (cond c 15 0)) 0) k 0)
+    ≡ cond b (reply 14 0) (cond c (reply 15 0) (reply 0 k))
 replied true c k = refl
 replied false true k = refl
 replied false false k = refl
@@ -110,14 +111,16 @@ module _ (d : Direction) (p : Parameters) (m : SubsampleMap) (n : ℕ) (key iv :
       from-adds t xs h .sound ∙ heldAt-is (p .crypt) (p .skip) (entriesOf p m n) (schemeOf (p .code)) (from t xs .state .position)
       ∙ ap H (from-position t xs)
 
-  from-sum : (t : State) (xs : List ℕ) → Fits t → length (from t xs .released) + H (t .position + length xs) ≡ length (t .held) + length xs
+  from-sum : (t : State) (xs : List ℕ) → Fits t
+      → length (from t xs .released) + H (t .position + length xs) ≡ length (t .held) + length xs
   from-sum t xs h = ap (λ (y : ℕ). length (from t xs .released) + y) (sym (from-held t xs h)) ∙ from-adds t xs h .sum
 
   from-append-state : (t : State) (xs ys : List ℕ) → from t (xs ++ ys) .state ≡ from (from t xs .state) ys .state
   unfolding feedUnder feedSample
   from-append-state t xs ys = feed-append-state _ _ _ _ _ _ _ t xs ys
 
-  from-append : (t : State) (xs ys : List ℕ) → from t (xs ++ ys) .released ≡ from t xs .released ++ from (from t xs .state) ys .released
+  from-append : (t : State) (xs ys : List ℕ)
+      → from t (xs ++ ys) .released ≡ from t xs .released ++ from (from t xs .state) ys .released
   unfolding feedUnder feedSample
   from-append t xs ys = feed-append _ _ _ _ _ _ _ t xs ys
 
@@ -157,7 +160,15 @@ module _ (d : Direction) (p : Parameters) (m : SubsampleMap) (n : ℕ) (key iv :
     at-sound : Rules p m n → length a ≤ n → sound (at a) ≡ true
     unfolding sound at
     at-sound r l =
-        rw (eq-eqb _ 0 (r .parameters), le-leb n longest (r .short), eq-eqb _ 0 (r .entries), r .unprotected, at-position, le-leb (length a) n l, eq-eqb _ _ at-held)
+        rw (
+          eq-eqb _ 0 (r .parameters),
+          le-leb n longest (r .short),
+          eq-eqb _ 0 (r .entries),
+          r .unprotected,
+          at-position,
+          le-leb (length a) n l,
+          eq-eqb _ _ at-held,
+        )
 
     at-due : (k : ℕ) → due (at a) k ≡ dueAt H (length a) k
     unfolding due dueAt countAt at
@@ -177,7 +188,7 @@ module _ (d : Direction) (p : Parameters) (m : SubsampleMap) (n : ℕ) (key iv :
 
       next-size : length (fedBy (at a) piece .released) ≡ dueAt H (length a) (length piece)
       unfolding dueAt countAt
-      next-size = rw fed-by (omega (arith, from-sum (fed a .state) piece fits-at, rw at-position at (from-sum (fed a .state) piece fits-at), at-sum, at-held))
+      next-size = rw fed-by (omega (arith, rw at-position at (from-sum (fed a .state) piece fits-at), at-sum, at-held))
 
     -- ---- one call more
 
@@ -190,7 +201,9 @@ module _ (d : Direction) (p : Parameters) (m : SubsampleMap) (n : ℕ) (key iv :
       pub within : length (a ++ pieceAt H n (length a) c) ≤ n
 
     module _ (r : Rules p m n) (l : length a ≤ n) where
-      at-number : (k room : ℕ) → answer (feedRows (at a) k room) ≡ cond (ltb n (length a + k)) 14 (cond (ltb room (dueAt H (length a) k)) 15 0)
+      at-number : (k room : ℕ)
+          → answer (feedRows (at a) k room)
+          ≡ cond (ltb n (length a + k)) 14 (cond (ltb room (dueAt H (length a) k)) 15 0)
       unfolding feedRows answer
       at-number k room = rw (at-sound r l, at-due k, length-at, position-at)
 
@@ -206,25 +219,32 @@ module _ (d : Direction) (p : Parameters) (m : SubsampleMap) (n : ℕ) (key iv :
 
         fed-reply : reply N (cond (eqb N 0) (due (at a) k) 0) ≡ feeding H n (length a) k room
         unfolding feeding
-        fed-reply = rw (at-number k room, at-due k) (replied (ltb n (length a + k)) (ltb room (dueAt H (length a) k)) (dueAt H (length a) k))
+        fed-reply =
+            rw (at-number k room, at-due k)
+            (replied (ltb n (length a + k)) (ltb room (dueAt H (length a) k)) (dueAt H (length a) k))
 
         by-number : feeding H n (length a) k room .number ≡ N
         by-number = sym (ap (λ (y : Reply). y .number) fed-reply)
 
-      next-stream : (piece : List ℕ) (q : Bool) → cond (q && not (eqb (length piece) 0)) (withState (at a) (fedBy (at a) piece .state)) (at a) ≡ at (a ++ cond q piece [])
+      next-stream : (piece : List ℕ) (q : Bool)
+          → cond (q && not (eqb (length piece) 0)) (withState (at a) (fedBy (at a) piece .state)) (at a)
+          ≡ at (a ++ cond q piece [])
       next-stream piece false = ap at (sym (append-nil a))
       next-stream [] true = ap at (sym (append-nil a))
       next-stream (x ∷ piece) true = rw (ne-eqb (suc (length piece)) 0 (omega arith)) (at-next (x ∷ piece))
 
       next-bytes : (piece out : List ℕ) (q : Bool)
-          → fed a .released ++ take (cond q (due (at a) (length piece)) 0) (cond q (fedBy (at a) piece .released ++ drop (due (at a) (length piece)) out) out)
+          → fed a .released
+          ++ take (cond q (due (at a) (length piece)) 0)
+          (cond q (fedBy (at a) piece .released ++ drop (due (at a) (length piece)) out) out)
           ≡ fed (a ++ cond q piece []) .released
       next-bytes piece out true =
-          rw (at-due (length piece), take-at (fedBy (at a) piece .released) (drop (dueAt H (length a) (length piece)) out) (dueAt H (length a) (length piece)) (next-size piece))
-          (next-released piece)
+          let v : ℕ = dueAt H (length a) (length piece) in
+          rw (at-due (length piece), take-at (fedBy (at a) piece .released) (drop v out) v (next-size piece)) (next-released piece)
       next-bytes piece out false = rw (append-nil, append-nil)
 
-      next-within : (piece : List ℕ) (b c q : Bool) → ltb n (length a + length piece) ≡ b → eqb (cond b 14 (cond c 15 0)) 0 ≡ q → length (a ++ cond q piece []) ≤ n
+      next-within : (piece : List ℕ) (b c q : Bool) → ltb n (length a + length piece) ≡ b
+          → eqb (cond b 14 (cond c 15 0)) 0 ≡ q → length (a ++ cond q piece []) ≤ n
       next-within piece b c false e f = rw append-nil l
       next-within piece true true true e f = absurd (true≢false (sym f))
       next-within piece true false true e f = absurd (true≢false (sym f))
@@ -238,7 +258,8 @@ module _ (d : Direction) (p : Parameters) (m : SubsampleMap) (n : ℕ) (key iv :
             stream = rw (by-number piece out) (next-stream piece (eqb (N piece out) 0));
             released = rw (by-number piece out) (next-bytes piece out (eqb (N piece out) 0));
             within = rw (by-number piece out, at-number (length piece) (length out))
-                (next-within piece (ltb n (length a + length piece)) (ltb (length out) (dueAt H (length a) (length piece))) _ refl refl);
+                (next-within piece (ltb n (length a + length piece))
+                (ltb (length out) (dueAt H (length a) (length piece))) _ refl refl);
           }
 
       moves-end : Moves Ending

@@ -115,5 +115,9 @@ allSaid (c ∷ cs) = c .said ∷ allSaid cs
 
 -- They are equal in every case.
 pub samples-hold : allMade samples ≡ allSaid samples
-unfolding samples allMade allSaid marked unmarked numbers counterBlocks blocksNeeded count protectedEntries mask marks rangeMarks tabulate isCiphered inWholeBlock inCryptRun whole over replaced chosen ctr streamByte counterAt digits number _⊕_ account replyAt pieceAt feeding countAt dueAt heldUnder heldAt inBlock inPlace place entriesOf schemeOf same fields filled answer sampleRows keyRows readRows known badFrame badHead badFields allowed allowedFields allowedProtected auxiliaryRows badSize mapRows mapRead entryCount some sum
+unfolding samples allMade allSaid marked unmarked numbers counterBlocks blocksNeeded count protectedEntries mask marks
+    rangeMarks tabulate isCiphered inWholeBlock inCryptRun whole over replaced chosen ctr streamByte counterAt digits number
+    _⊕_ account replyAt pieceAt feeding countAt dueAt heldUnder heldAt inBlock inPlace place entriesOf schemeOf same fields
+    filled answer sampleRows keyRows readRows known badFrame badHead badFields allowed allowedFields allowedProtected
+    auxiliaryRows badSize mapRows mapRead entryCount some sum
 samples-hold = refl

@@ -1,8 +1,8 @@
 -- The record's rules: a started record is sound, a sound one stays so, and accepts an empty piece.
 use mathlib.Core.Bool.{Bool, true, false, cond, not, _&&_, _||_}
 use mathlib.Core.List.{List, []}
-use mathlib.Core.Path.{_≡_, refl, sym, _∙_}
-use Prim.Native.Nat.{ℕ, _+_, _-_, _≤_}
+use mathlib.Core.Path.{_≡_, refl, _∙_}
+use Prim.Native.Nat.{ℕ, _+_, _≤_}
 use native.Mathlib.Nat.{add-zero}
 use native.Mathlib.Omega.{arith}
 use lib.Dec.{eqb, leb, ltb}
@@ -14,6 +14,7 @@ use Rattle.octets.specs.Bytes.{same}
 use Rattle.octets.proofs.Answers.{done-head, done-tail}
 use Rattle.octets.proofs.Bytes.{&&-left, &&-right}
 use Rattle.modes.specs.declared.Direction.{Direction}
+use Rattle.track.specs.declared.Parameters.{Parameters}
 use Rattle.track.specs.Track.{known, allowedFields, allowed, fields, parameterRows}
 use Rattle.subsample.specs.Auxiliary.{longest, some, sum, mapRows, mapRead}
 use Rattle.scheme.specs.Layout.{schemeOf}
@@ -85,13 +86,15 @@ module _ (t : Stream) (n room : ℕ) (h : answer (feedRows t n room) ≡ 0) wher
       (done-head 14 (ltb (t .length) (t .position + n)) _ (omega arith) (done-tail 13 (not (sound t)) _ (omega arith) h))
 
 -- what feeding hands back is sound again
-pub feed-sound : (t : Stream) (piece : List ℕ) (room : ℕ) → length (t .held) ≡ 16 → sound t ≡ true → sound (feed t piece room .stream) ≡ true
+pub feed-sound : (t : Stream) (piece : List ℕ) (room : ℕ)
+    → length (t .held) ≡ 16 → sound t ≡ true → sound (feed t piece room .stream) ≡ true
 unfolding feed
 feed-sound t piece room w ok = go (eqb (answer (feedRows t (length piece) room)) 0) (not (eqb (length piece) 0)) refl
   where
     go : (b c : Bool) → eqb (answer (feedRows t (length piece) room)) 0 ≡ b
         → sound (cond (b && c) (withState t (fedBy t piece .state)) t) ≡ true
-    go true true e = next-sound t ok w piece (done-within t (length piece) room (eqb-true (answer (feedRows t (length piece) room)) 0 e))
+    go true true e =
+        next-sound t ok w piece (done-within t (length piece) room (eqb-true (answer (feedRows t (length piece) room)) 0 e))
     go true false e = ok
     go false c e = ok
 
@@ -118,9 +121,17 @@ module _ (d : Direction) (code box aux keys : List ℕ) (n : ℕ) where
   started-sound : Rules (fields code box) (mapRead (fields code box) aux) n → sound (started d code box aux keys n) ≡ true
   unfolding sound started heldUnder
   started-sound r =
-      let z : 0 ≡ heldUnder (fields code box) (mapRead (fields code box) aux) n 0 =
-      heldAt-start (fields code box .crypt) (fields code box .skip) (entriesOf (fields code box) (mapRead (fields code box) aux) n) (schemeOf (fields code box .code)) in
-      rw (eq-eqb _ 0 (r .parameters), le-leb n longest (r .short), eq-eqb _ 0 (r .entries), r .unprotected, le-leb 0 n (omega arith), eq-eqb _ _ z)
+      let p : Parameters = fields code box in
+      let z : 0 ≡ heldUnder p (mapRead p aux) n 0 =
+      heldAt-start (p .crypt) (p .skip) (entriesOf p (mapRead p aux) n) (schemeOf (p .code)) in
+      rw (
+        eq-eqb _ 0 (r .parameters),
+        le-leb n longest (r .short),
+        eq-eqb _ 0 (r .entries),
+        r .unprotected,
+        le-leb 0 n (omega arith),
+        eq-eqb _ _ z,
+      )
 
 idle-sound : sound idle ≡ true
 unfolding sound answer known same allowed allowedFields mapRows some sum heldUnder heldAt schemeOf
@@ -134,6 +145,7 @@ start-sound d code box aux keys n = go (eqb (answer (sampleRows code box aux key
     begun : answer (sampleRows code box aux keys n) ≡ 0 → sound (started d code box aux keys n) ≡ true
     begun h = started-sound d code box aux keys n (rules code box aux keys n h)
 
-    go : (b : Bool) → eqb (answer (sampleRows code box aux keys n)) 0 ≡ b → sound (cond b (started d code box aux keys n) idle) ≡ true
+    go : (b : Bool) → eqb (answer (sampleRows code box aux keys n)) 0 ≡ b
+        → sound (cond b (started d code box aux keys n) idle) ≡ true
     go true e = begun (eqb-true (answer (sampleRows code box aux keys n)) 0 e)
     go false e = idle-sound
