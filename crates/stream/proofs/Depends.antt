@@ -17,7 +17,7 @@ use Rattle.scheme.specs.Part.{entriesOf, heldUnder}
 use Rattle.stream.specs.declared.Stream.{Stream}
 use Rattle.stream.specs.Stream.{sound, withState, due, feedRows, fedBy, feed, endRows, end}
 use Rattle.stream.specs.Demand3.{Call, Feeding, Ending, Reply, reply, make, run, replies}
-use Rattle.stream.proofs.Sound.{next-position, next-held, next-places, done-sound}
+use Rattle.stream.proofs.Rules.{next-position, next-held, next-places, done-sound}
 
 -- ---- Parameters.
 

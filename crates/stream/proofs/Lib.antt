@@ -1,5 +1,7 @@
 pub mod Reached
-pub mod Sound
+pub mod Rules
+pub mod Joining
+pub mod Starting
 pub mod Accepted
 pub mod Demand3
 pub mod Depends

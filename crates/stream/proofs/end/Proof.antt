@@ -1,0 +1,28 @@
+use mathlib.Core.Path.{sym, _∙_}
+use borrow.Author.Tests.{eq-eqb, ne-eqb, not-true, not-false}
+use Rattle.octets.specs.Answers.{answer}
+use Rattle.stream.specs.Stream.{endRows, end}
+use borrow.Author.Needs.{needs}
+use Rattle.stream.proofs.end.Statement.{statement}
+use Rattle.stream.proofs.end.Tie as tie
+
+returns : tie.Need-returns
+unfolding end endRows answer
+returns c = rw (sym (c .before .sound .ensures) ∙ not-true _ (c .if1 .taken))
+
+returns-2 : tie.Need-returns-2
+unfolding end endRows answer
+returns-2 c =
+    let t = c .before .before .before .before .args .stream in
+    rw (sym (c .before .before .before .sound .ensures) ∙ not-false _ (c .before .before .if1 .left), ne-eqb (t .position) (t .length) (c .if2 .taken))
+
+returns-3 : tie.Need-returns-3
+unfolding end endRows answer
+returns-3 c =
+    let t = c .before .before .before .before .args .stream in
+    rw (sym (c .before .before .before .sound .ensures) ∙ not-false _ (c .before .before .if1 .left), eq-eqb (t .position) (t .length) (c .if2 .left))
+
+pub end-spec : {M : Type 1} → statement M
+end-spec =
+    tie.close
+    (tie.spec (search needs) returns returns-2 returns-3)
