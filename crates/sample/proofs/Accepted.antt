@@ -17,7 +17,6 @@ use Rattle.modes.specs.Modes.{Cipher}
 use Rattle.modes.proofs.Undone.{bytes-take, bytes-drop, bytes-append}
 use Rattle.track.specs.declared.Parameters.{Parameters}
 use Rattle.track.specs.Track.{zeros, hasConstant, fields, readRows}
-use Rattle.track.proofs.Codes.{allowed-small}
 use Rattle.track.proofs.RoundTrip.{Accepted, accepted}
 use Rattle.subsample.specs.declared.SubsampleMap.{SubsampleMap}
 use Rattle.subsample.specs.Auxiliary.{limit, longest, mapRows, mapRead, ivRead, auxiliaryRows}
@@ -26,7 +25,7 @@ use Rattle.scheme.specs.Machine.{Stepped}
 use Rattle.scheme.specs.Part.{entriesOf, ciphered, fits, transformed}
 use Rattle.scheme.proofs.Pieces.{Sized}
 use Rattle.scheme.proofs.Walk.{Pattern}
-use Rattle.scheme.proofs.Allowed.{first-ciphered, cbcs-constant, allowed-protected, protected-total, accepted-total}
+use Rattle.scheme.proofs.Allowed.{cbcs-constant, allowed-protected, allowed-pattern, protected-total, accepted-total}
 use Rattle.scheme.proofs.Under.{Begins, clear-ciphered, fed-whole}
 use Rattle.scheme.proofs.Fitting.{fits-whole, transformed-clear}
 use Rattle.sample.specs.Sample.{keyIn, sampleRows, handedOut, readInputs, cipheredBy, sampleAfter}
@@ -86,13 +85,7 @@ module _ (code box aux keys : List ℕ) (n : ℕ) (h : answer (sampleRows code b
 
   pattern : p .protected ≡ 1 → Pattern (schemeOf (p .code)) (p .crypt) (p .skip)
   unfolding fields
-  pattern one =
-      let small = allowed-small p (sound .permitted) in
-      record {
-        low = omega (arith, small .0);
-        high = omega (arith, small .1);
-        first = first-ciphered (p .«iv_size») (p .crypt) (p .skip) (p .code) (sound .known-code) (allowed-protected p (sound .permitted) one);
-      }
+  pattern one = allowed-pattern p (sound .known-code) (sound .permitted) one
 
   module _ (hb : (i : ℕ) → getD box i 0 < 256) (ha : (i : ℕ) → getD aux i 0 < 256) where
     iv-bytes : Bytes 16 (ivRead p aux)

@@ -15,13 +15,14 @@ use Rattle.octets.proofs.Answers.{done-head, done-tail}
 use Rattle.octets.proofs.Bytes.{&&-left, &&-right}
 use Rattle.track.specs.declared.Parameters.{Parameters}
 use Rattle.track.specs.Track.{zeros, known, hasConstant, aPattern, eightOrSixteen, allowedProtected, allowedFields, allowed}
-use Rattle.track.proofs.Codes.{known-cases}
+use Rattle.track.proofs.Codes.{known-cases, allowed-small}
 use Rattle.subsample.specs.declared.SubsampleMap.{SubsampleMap}
 use Rattle.subsample.specs.Auxiliary.{limit, sum, entryLength, mapRows}
 use Rattle.scheme.specs.declared.Scheme.{Scheme}
 use Rattle.scheme.specs.declared.Scheme.the-variants.{Cenc, Cbc1, Cens, Cbcs}
 use Rattle.scheme.specs.Layout.{schemeOf, inWholeBlock, inCryptRun, isCiphered, Entry, entry, entries, total}
 use Rattle.scheme.specs.Part.{protectedEntries, entriesOf}
+use Rattle.scheme.proofs.Walk.{Pattern}
 
 -- ---- Parameters.
 
@@ -71,6 +72,17 @@ allowed-protected p h one =
     rw one at
     (&&-right (hasConstant (p .protected) (p .«iv_size») || same (p .«constant_iv» .0) zeros)
     (allowedFields (p .code) (p .protected) (p .«iv_size») (p .crypt) (p .skip)) h)
+
+-- allowed parameters of a protected track, as far as the walk goes by them
+pub allowed-pattern : (p : Parameters) → known (p .code) ≡ true → allowed p ≡ true → p .protected ≡ 1
+    → Pattern (schemeOf (p .code)) (p .crypt) (p .skip)
+allowed-pattern p k a one =
+    let small = allowed-small p a in
+    record {
+      low = omega (arith, small .0);
+      high = omega (arith, small .1);
+      first = first-ciphered (p .«iv_size») (p .crypt) (p .skip) (p .code) k (allowed-protected p a one);
+    }
 
 -- ---- The map.
 

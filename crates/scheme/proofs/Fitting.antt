@@ -104,21 +104,23 @@ module _ (E D : Cipher) (d : Direction) (p : Parameters) (m : SubsampleMap) (n x
           (rw (f, k), rw (f, k))
       go false f = (rw f, rw f)
 
--- a whole sample fits
-pub fits-whole : (p : Parameters) (m : SubsampleMap) (n : ℕ) → p .protected ≡ 1 → n ≤ longest
-    → Pattern (schemeOf (p .code)) (p .crypt) (p .skip) → total (protectedEntries m n) ≡ n → fits p m n 0 n ≡ true
-unfolding heldUnder
-fits-whole p m n one l pattern t =
-    let w = whole-asks (p .crypt) (p .skip) (schemeOf (p .code)) (protectedEntries m n) n pattern (sym t) in
-    let e = protected-entries p m n one in
-    let from : heldUnder p m n 0 ≡ 0 = rw e (w .from) in
-    let to : heldUnder p m n (0 + n) ≡ 0 = rw e (w .to) in
-    rw (
-      fits-is p m n one 0 n,
-      le-leb n longest l,
-      pattern .first,
-      t,
-      le-leb (0 + n) n (omega arith),
-      eq-eqb (heldUnder p m n 0) 0 from,
-      eq-eqb (heldUnder p m n (0 + n)) 0 to,
-    )
+-- a part that the walk may take fits, and so does a whole sample
+module _ (p : Parameters) (m : SubsampleMap) (n : ℕ) (one : p .protected ≡ 1) (l : n ≤ longest) where
+  pub asks-fits : (x k u : ℕ) → SampleAsks (schemeOf (p .code)) (p .crypt) (p .skip) (protectedEntries m n) x k u → fits p m n x k ≡ true
+  unfolding heldUnder
+  asks-fits x k u w =
+      let e = protected-entries p m n one in
+      let from : heldUnder p m n x ≡ 0 = rw e (w .from) in
+      let to : heldUnder p m n (x + k) ≡ 0 = rw e (w .to) in
+      rw (
+        fits-is p m n one x k,
+        le-leb n longest l,
+        w .pattern .first,
+        le-leb (x + k) (total (protectedEntries m n)) (w .within),
+        eq-eqb (heldUnder p m n x) 0 from,
+        eq-eqb (heldUnder p m n (x + k)) 0 to,
+      )
+
+  pub fits-whole : Pattern (schemeOf (p .code)) (p .crypt) (p .skip) → total (protectedEntries m n) ≡ n → fits p m n 0 n ≡ true
+  fits-whole pattern t =
+      asks-fits 0 n 0 (whole-asks (p .crypt) (p .skip) (schemeOf (p .code)) (protectedEntries m n) n pattern (sym t))

@@ -2,6 +2,7 @@ pub mod Reached
 pub mod Rules
 pub mod Joining
 pub mod Starting
+pub mod Releasing
 pub mod Accepted
 pub mod Demand3
 pub mod Depends

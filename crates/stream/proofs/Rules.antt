@@ -53,10 +53,32 @@ module _ (t : Stream) (ok : sound t ≡ true) where
       held-small (t .parameters .crypt) (t .parameters .skip) (schemeOf (t .parameters .code))
       (entriesOf (t .parameters) (t .map) (t .length)) x
 
+  pub position-within : t .position ≤ t .length
+  unfolding sound
+  position-within =
+      leb-true (t .position) (t .length)
+      (&&-right (declared t) (leb (t .position) (t .length))
+      (&&-left (declared t && leb (t .position) (t .length)) (eqb (t .«held_count») (heldBy t (t .position))) ok))
+
+  -- what was declared keeps its rules
+  pub sound-rules : Rules (t .parameters) (t .map) (t .length)
+  sound-rules =
+      let a : Bool = eqb (answer (parameterRows (t .parameters))) 0 in
+      let b : Bool = leb (t .length) longest in
+      let c : Bool = eqb (answer (mapRows (t .parameters .code) (t .map) (t .length))) 0 in
+      let d : Bool = eqb (t .parameters .protected) 1 || eqb (t .map .count) 0 in
+      let h = &&-left (a && b && c) d declared-is in
+      record {
+        parameters = eqb-true (answer (parameterRows (t .parameters))) 0 (&&-left a b (&&-left (a && b) c h));
+        short = leb-true (t .length) longest (&&-right a b (&&-left (a && b) c h));
+        entries = eqb-true (answer (mapRows (t .parameters .code) (t .map) (t .length))) 0 (&&-right (a && b) c h);
+        unprotected = &&-right (a && b && c) d declared-is;
+      }
+
   -- with all 16 held places, as a record of the code has them: where a piece leads
   module _ (w : length (t .held) ≡ 16) (piece : List ℕ) where
-    fits : length (stateOf t .held) ≡ heldBy t (t .position)
-    fits = length-take-le (t .«held_count») (t .held) (omega (arith, held-is, few (t .position))) ∙ held-is
+    pub held-fits : length (stateOf t .held) ≡ heldBy t (t .position)
+    held-fits = length-take-le (t .«held_count») (t .held) (omega (arith, held-is, few (t .position))) ∙ held-is
 
     pub next-position : fedBy t piece .state .position ≡ t .position + length piece
     unfolding fedBy
@@ -64,7 +86,7 @@ module _ (t : Stream) (ok : sound t ≡ true) where
 
     pub next-held : length (fedBy t piece .state .held) ≡ heldBy t (t .position + length piece)
     unfolding fedBy
-    next-held = from-held (t .direction) (t .parameters) (t .map) (t .length) (t .key .0) [] (stateOf t) piece fits
+    next-held = from-held (t .direction) (t .parameters) (t .map) (t .length) (t .key .0) [] (stateOf t) piece held-fits
 
     pub next-places : length (withState t (fedBy t piece .state) .held) ≡ 16
     next-places = simp (length-append, length-replicate) (omega (arith, next-held, few (t .position + length piece)))
@@ -102,18 +124,11 @@ none-due : (t : Stream) → sound t ≡ true → due t 0 ≡ 0
 unfolding due
 none-due t ok = rw (held-is t ok, add-zero (t .position)) (omega arith)
 
-within : (t : Stream) → sound t ≡ true → t .position ≤ t .length
-unfolding sound
-within t ok =
-    leb-true (t .position) (t .length)
-    (&&-right (declared t) (leb (t .position) (t .length))
-    (&&-left (declared t && leb (t .position) (t .length)) (eqb (t .«held_count») (heldBy t (t .position))) ok))
-
 -- With a sound record an empty piece is accepted and changes nothing.
 pub empty-piece : (t : Stream) (room : ℕ) → sound t ≡ true → feed t [] room ≡ record { number = 0; released = 0; stream = t }
 unfolding feed feedRows answer
 empty-piece t room ok =
-    rw (ok, add-zero (t .position), le-ltb (t .length) (t .position) (within t ok), none-due t ok, le-ltb room 0 (omega arith))
+    rw (ok, add-zero (t .position), le-ltb (t .length) (t .position) (position-within t ok), none-due t ok, le-ltb room 0 (omega arith))
 
 -- ---- The start.
 

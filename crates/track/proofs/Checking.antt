@@ -9,11 +9,14 @@ use borrow.Author.Tests.{lt-ltb, le-ltb, not-false}
 use Rattle.octets.specs.Answers.{row, answer}
 use Rattle.octets.proofs.Answers.{Refusals, none, more, done-head, done-tail, join-done, join-refused}
 use Rattle.track.specs.declared.Parameters.{Parameters}
-use Rattle.track.specs.Track.{allowed, boxLength, parameterRows, writeRows}
+use Rattle.track.specs.Track.{known, allowed, boxLength, parameterRows, writeRows}
 
 module _ (p : Parameters) where
   pub parameter-refusals : Refusals (parameterRows p)
   parameter-refusals = more (lit< tt) (more (lit< tt) (more (lit< tt) none))
+
+  pub check-known : answer (parameterRows p) ≡ 0 → known (p .code) ≡ true
+  check-known h = not-false _ (done-head 1 _ _ (omega arith) h)
 
   pub check-allowed : answer (parameterRows p) ≡ 0 → allowed p ≡ true
   check-allowed h = not-false _ (done-head 4 _ _ (omega arith) (done-tail 3 _ _ (omega arith) (done-tail 1 _ _ (omega arith) h)))
