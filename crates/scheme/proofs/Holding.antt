@@ -285,3 +285,11 @@ held-small crypt skip s es x = go (modeOf s) refl
     go : (f : Mode) → modeOf s ≡ f → heldAt crypt skip es s x ≤ 15
     go Counter k = omega (arith, held-counter crypt skip s es x k)
     go Chain k = held-marks s crypt skip k es x .few
+
+-- and none that came after the position
+pub held-low : (crypt skip : ℕ) (s : Scheme) (es : List Entry) (x : ℕ) → heldAt crypt skip es s x ≤ x
+held-low crypt skip s es x = go (modeOf s) refl
+  where
+    go : (f : Mode) → modeOf s ≡ f → heldAt crypt skip es s x ≤ x
+    go Counter k = omega (arith, held-counter crypt skip s es x k)
+    go Chain k = held-marks s crypt skip k es x .low

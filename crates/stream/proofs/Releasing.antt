@@ -184,3 +184,38 @@ module _ (t : Stream) (ok : sound t ≡ true) (w : Places t) (piece : List ℕ) 
       (piece-says E D (λ b l. encipher-length _ b) (λ b l. decipher-length _ b) (t .direction) s (p .crypt) (p .skip)
       (p .«constant_iv» .0) es (t .position) (t .block) h piece h-held (T .state .block) (T .released)))
       part-fed
+
+  -- the record after it, as the code writes it
+  pub released-stream : (rest : List ℕ) → rest ≡ drop (due t (length piece)) all ++ replicate (16 - keep) 0
+      → record {
+        direction = t .direction;
+        parameters = p;
+        length = n;
+        map = m;
+        position = t .position + length piece;
+        key = t .key;
+        block = T .state .block;
+        held = rest;
+        «held_count» = keep;
+      }
+      ≡ withState t (fedBy t piece .state)
+  released-stream rest e = rw (fed-is, size-rest, e)
+
+  -- and the output: the due bytes laid in front and ciphered there
+  module _ (out : List ℕ) (fits : due t (length piece) ≤ length out) where
+    abbrev k : ℕ
+    k = due t (length piece)
+
+    zero : k - 0 ≡ k
+    zero = omega arith
+
+    -- what is laid there
+    pub laid-is : (z : List ℕ) → z ≡ take (length (take (k - 0) out)) all → z ≡ part
+    laid-is z e = e ∙ rw (zero, length-take-le k out fits)
+
+    pub laid-part : (z : List ℕ) → z ≡ part → take (k - 0) (putMid 0 (k - 0) out z) ≡ part
+    laid-part z e = rw (zero, e) (take-at part (drop k out) k size-part)
+
+    pub output-is : (z y : List ℕ) → z ≡ part → y ≡ T .released → length y ≡ k
+        → putMid 0 (k - 0) (putMid 0 (k - 0) out z) y ≡ fedBy t piece .released ++ drop k out
+    output-is z y e f s = rw (zero, e, fed-is, f, drop-at part (drop k out) k size-part)

@@ -20,7 +20,7 @@ use Rattle.subsample.specs.Auxiliary.{longest, some, sum, mapRows, mapRead}
 use Rattle.scheme.specs.Layout.{schemeOf}
 use Rattle.scheme.specs.Held.{heldAt}
 use Rattle.scheme.specs.Part.{entriesOf, heldUnder}
-use Rattle.scheme.proofs.Holding.{held-small}
+use Rattle.scheme.proofs.Holding.{held-small, held-low}
 use Rattle.sample.specs.Sample.{sampleRows}
 use Rattle.stream.specs.declared.Stream.{Stream}
 use Rattle.stream.specs.Stream.{heldBy, sound, idle, started, start, stateOf, withState, due, feedRows, fedBy, feed}
@@ -47,11 +47,20 @@ module _ (t : Stream) (ok : sound t ≡ true) where
       eqb-true (t .«held_count») (heldBy t (t .position))
       (&&-right (declared t && leb (t .position) (t .length)) (eqb (t .«held_count») (heldBy t (t .position))) ok)
 
-  few : (x : ℕ) → heldBy t x ≤ 15
+  pub few : (x : ℕ) → heldBy t x ≤ 15
   unfolding heldUnder
   few x =
       held-small (t .parameters .crypt) (t .parameters .skip) (schemeOf (t .parameters .code))
       (entriesOf (t .parameters) (t .map) (t .length)) x
+
+  pub held-most : t .«held_count» ≤ 15
+  held-most = omega (arith, held-is, few (t .position))
+
+  pub held-below : t .«held_count» ≤ t .position
+  unfolding heldUnder
+  held-below =
+      omega (arith, held-is, held-low (t .parameters .crypt) (t .parameters .skip) (schemeOf (t .parameters .code))
+      (entriesOf (t .parameters) (t .map) (t .length)) (t .position))
 
   pub position-within : t .position ≤ t .length
   unfolding sound
