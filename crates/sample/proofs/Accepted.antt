@@ -1,28 +1,27 @@
 -- What accepted inputs say: the sample's entries, its IV, and that the transform of the whole is the whole-sample definition.
 use mathlib.Core.Bool.{Bool, true, false, cond}
-use mathlib.Core.List.{List, [], _∷_, _++_}
+use mathlib.Core.List.{List, _++_}
 use mathlib.Core.Path.{_≡_, refl, sym, ap, _∙_}
-use Prim.Native.Nat.{ℕ, zero, suc, _+_, _≤_, _<_}
+use Prim.Native.Nat.{ℕ, zero, suc, _≤_, _<_}
 use native.Mathlib.Omega.{arith}
 use lib.Dec.{eqb}
-use lib.ListN.{length, getD, take, drop, replicate, length-append, length-replicate, getD-replicate}
+use lib.ListN.{length, getD, take, drop, replicate, length-append, length-replicate}
 use lib.Seq.{length-take-le}
 use borrow.Author.Tests.{eqb-true, ne-eqb, ltb-false}
 use Rattle.octets.specs.Answers.{answer}
-use Rattle.octets.specs.Bytes.{Bytes, filled, listOf}
+use Rattle.octets.specs.Bytes.{Bytes, filled}
 use Rattle.octets.proofs.Answers.{done-head, done-tail}
 use Rattle.aes.specs.Block.{roundKeys, encipher, decipher, encipher-length, decipher-length}
 use Rattle.modes.specs.declared.Direction.{Direction}
 use Rattle.modes.specs.Modes.{Cipher}
 use Rattle.modes.proofs.Undone.{bytes-take, bytes-drop, bytes-append}
 use Rattle.track.specs.declared.Parameters.{Parameters}
-use Rattle.track.specs.Track.{zeros, hasConstant, fields, readRows}
+use Rattle.track.specs.Track.{zeros, hasConstant, fields}
 use Rattle.track.proofs.Codes.{allowed-small}
 use Rattle.track.proofs.RoundTrip.{Accepted, accepted}
 use Rattle.subsample.specs.declared.SubsampleMap.{SubsampleMap}
 use Rattle.subsample.specs.Auxiliary.{limit, longest, mapRows, mapRead, ivRead, auxiliaryRows}
 use Rattle.scheme.specs.Layout.{schemeOf, total}
-use Rattle.scheme.specs.Machine.{Stepped}
 use Rattle.scheme.specs.Part.{entriesOf, ciphered, fits, transformed}
 use Rattle.scheme.proofs.Pieces.{Sized}
 use Rattle.scheme.proofs.Walk.{Pattern}
@@ -34,11 +33,11 @@ use Rattle.sample.specs.declared.Inputs.{Inputs}
 use Rattle.sample.proofs.Tables.{box-accepted, auxiliary-accepted, inputs-accepted}
 
 -- a byte string filled out with zeros
-filled-length : (n : ℕ) (s : List ℕ) → length (filled n s) ≡ n
+pub filled-length : (n : ℕ) (s : List ℕ) → length (filled n s) ≡ n
 unfolding filled
 filled-length n s = length-take-le n (s ++ replicate n 0) (simp (length-append, length-replicate) (omega arith))
 
-zeros-bytes : (n : ℕ) → Bytes n (replicate n 0)
+pub zeros-bytes : (n : ℕ) → Bytes n (replicate n 0)
 zeros-bytes n = record { size = length-replicate n 0; small = small n }
   where
     small : (n i : ℕ) → getD (replicate n 0) i 0 < 256
@@ -46,7 +45,7 @@ zeros-bytes n = record { size = length-replicate n 0; small = small n }
     small (suc n) zero = omega arith
     small (suc n) (suc i) = small n i
 
-filled-bytes : (n : ℕ) (s : List ℕ) → ((i : ℕ) → getD s i 0 < 256) → Bytes n (filled n s)
+pub filled-bytes : (n : ℕ) (s : List ℕ) → ((i : ℕ) → getD s i 0 < 256) → Bytes n (filled n s)
 unfolding filled
 filled-bytes n s h =
     bytes-take n (s ++ replicate n 0) (bytes-append {xs = s} (record { size = refl; small = h }) (zeros-bytes n) refl) (filled-length n s)
@@ -68,7 +67,7 @@ module _ (code box aux keys : List ℕ) (n : ℕ) (h : answer (sampleRows code b
   unfolding auxiliaryRows
   length-allowed = ltb-false longest n (done-head 7 _ _ (omega arith) data-accepted)
 
-  map-accepted : answer (mapRows (p .code) m n) ≡ 0
+  pub map-accepted : answer (mapRows (p .code) m n) ≡ 0
   unfolding auxiliaryRows
   map-accepted = done-tail 8 _ _ (omega arith) (done-tail 7 _ _ (omega arith) data-accepted)
 
@@ -129,6 +128,12 @@ module _ (code box aux keys : List ℕ) (n : ℕ) (h : answer (sampleRows code b
             rw (l, f) (rw l at (fed-whole E D sE sD d p m (ivRead p aux) begins xs (rw l (sym accepted-length))))
         go false e = transformed-clear E D d p m n 0 (ivRead p aux) xs e .0 ∙ sym (clear-ciphered E D d p m n e (ivRead p aux) xs l)
 
+-- a refusal changes nothing
+pub after-refusal : (d : Direction) (code box aux keys xs : List ℕ) → (answer (sampleRows code box aux keys (length xs)) ≡ 0 → ⊥)
+    → sampleAfter d code box aux keys xs ≡ xs
+unfolding sampleAfter
+after-refusal d code box aux keys xs h = rw (ne-eqb (answer (sampleRows code box aux keys (length xs))) 0 h)
+
 -- what a call makes of the inputs read
 module _ (code box aux keys xs : List ℕ) (i : Inputs) (ei : i ≡ readInputs code box aux keys (length xs)) where
   pub inputs-number : i .number ≡ answer (sampleRows code box aux keys (length xs))
@@ -136,8 +141,7 @@ module _ (code box aux keys xs : List ℕ) (i : Inputs) (ei : i ≡ readInputs c
   inputs-number = ap (λ (i : Inputs). i .number) ei
 
   pub after-refused : (d : Direction) → (i .number ≡ 0 → ⊥) → xs ≡ sampleAfter d code box aux keys xs
-  unfolding sampleAfter
-  after-refused d h = rw (ne-eqb (answer (sampleRows code box aux keys (length xs))) 0 (λ e. h (inputs-number ∙ e)))
+  after-refused d h = sym (after-refusal d code box aux keys xs (λ e. h (inputs-number ∙ e)))
 
   pub after-done : (d : Direction) → i .number ≡ 0 → ((j : ℕ) → getD box j 0 < 256) → ((j : ℕ) → getD aux j 0 < 256)
       → transformed (encipher (roundKeys (i .key .0))) (decipher (roundKeys (i .key .0))) d (i .parameters) (i .map) (length xs) 0 (i .iv .0) xs .released

@@ -1,12 +1,11 @@
 -- The table of a whole-sample call: the first of box, key record and auxiliary data that is refused decides.
-use mathlib.Core.Bool.{Bool, true, false}
 use mathlib.Core.List.{List, _++_}
-use mathlib.Core.Path.{_≡_, refl, sym, ap, _∙_}
+use mathlib.Core.Path.{_≡_, sym, ap, _∙_}
 use Prim.Native.Nat.{ℕ}
-use lib.Dec.{eqb, lit<}
-use borrow.Author.Tests.{eqb-true, eqb-false, ne-eqb}
-use Rattle.octets.specs.Answers.{Row, answer}
-use Rattle.octets.proofs.Answers.{Refusals, none, more, join-done, join-refused}
+use lib.Dec.{lit<}
+use borrow.Author.Tests.{ne-eqb}
+use Rattle.octets.specs.Answers.{answer}
+use Rattle.octets.proofs.Answers.{Refusals, none, more, join-done, join-refused, join-first}
 use Rattle.track.specs.declared.Parameters.{Parameters}
 use Rattle.track.specs.declared.BoxRead.{BoxRead}
 use Rattle.track.specs.Track.{zeros, fields, readRows, unprotected, readBox}
@@ -18,16 +17,9 @@ use Rattle.sample.specs.declared.KeyFound.{KeyFound}
 use Rattle.sample.specs.declared.Inputs.{Inputs}
 use Rattle.sample.specs.Sample.{keyRows, keyIn, findKey, sampleRows, handedOut, readInputs}
 
-key-refusals : (p : Parameters) (keys : List ℕ) → Refusals (keyRows p keys)
+pub key-refusals : (p : Parameters) (keys : List ℕ) → Refusals (keyRows p keys)
 unfolding keyRows
 key-refusals p keys = more (lit< tt) (more (lit< tt) none)
-
-join-first : (rows s : List Row) → answer (rows ++ s) ≡ 0 → answer rows ≡ 0
-join-first rows s h = go (eqb (answer rows) 0) refl
-  where
-    go : (b : Bool) → eqb (answer rows) 0 ≡ b → answer rows ≡ 0
-    go true e = eqb-true (answer rows) 0 e
-    go false e = sym (join-refused rows s (eqb-false (answer rows) 0 e)) ∙ h
 
 module _ (code box aux keys : List ℕ) (n : ℕ) where
   abbrev p : Parameters
