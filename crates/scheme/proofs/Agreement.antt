@@ -3,10 +3,10 @@ use mathlib.Core.Path.{_≡_, refl, sym, ap, _∙_}
 use mathlib.Core.Bool.{Bool, true, false, cond, _&&_}
 use mathlib.Core.List.{List, [], _∷_, _++_, append-assoc, append-nil}
 use Prim.Native.Nat.{ℕ, zero, suc, _+_, _-_, _*_, _/_, _%_, _≤_, _<_}
-use native.Mathlib.Nat.{zero-add, add-zero, suc-ne-zero, suc-inj, suc-add, zero-mod}
+use native.Mathlib.Nat.{zero-add, add-zero, suc-inj, suc-add}
 use native.Mathlib.Numerals.{add-one}
 use native.Mathlib.Omega.{arith}
-use lib.Dec.{leb, ltb, eqb}
+use lib.Dec.{ltb, eqb}
 use lib.ListN.{length, getD, take, drop, replicate, length-append, length-replicate, length-drop, take-append-drop}
 use lib.Seq.{getD-drop, drop-drop, take-at, drop-at, length-take-le}
 use Rattle.octets.specs.Xor.{_⊕_}
@@ -15,8 +15,7 @@ use Rattle.scheme.specs.declared.Scheme.{Scheme}
 use Rattle.scheme.specs.declared.Scheme.the-variants.{Cenc, Cbc1, Cens, Cbcs}
 use Rattle.scheme.specs.Layout.{Entry, total, inWholeBlock, inCryptRun, tabulate, isCiphered, rangeMarks, marks, mask, restarts, restartMask, chosen, replaced}
 use Rattle.modes.specs.declared.Direction.{Direction}
-use Rattle.modes.specs.declared.Direction.the-variants.{Lock, Open}
-use Rattle.modes.specs.Modes.{Cipher, counterAt, streamByte, ctr, xors, blockOut, blockChain, cbcBlocks, cbc}
+use Rattle.modes.specs.Modes.{Cipher, counterAt, streamByte, ctr, blockOut, blockChain, cbcBlocks, cbc}
 use Rattle.scheme.specs.WholeSample.{over, overEach, whole}
 use Rattle.octets.specs.Bytes.{Bytes}
 use Rattle.modes.proofs.Counter.{steps, no-step}

@@ -1,15 +1,14 @@
 -- Demand 3: what is released from a sample's first pieces, however it is cut.
-use mathlib.Core.Path.{_≡_, refl, sym, ap, _∙_}
-use mathlib.Core.Bool.{Bool, true, false, cond}
-use mathlib.Core.List.{List, [], _∷_, _++_, flatten}
-use Prim.Native.Nat.{ℕ, zero, suc, _+_, _-_, _*_, _/_, _%_, _≤_, _<_}
+use mathlib.Core.Path.{_≡_, refl, _∙_}
+use mathlib.Core.Bool.{true}
+use mathlib.Core.List.{List, _++_, flatten}
+use Prim.Native.Nat.{ℕ, _-_}
 use native.Mathlib.Omega.{arith}
-use lib.ListN.{length, getD, take, drop, length-append}
+use lib.ListN.{length, take, length-append}
 use lib.Seq.{take-append-seam}
-use lib.Dec.{ltb}
 use Rattle.scheme.specs.declared.Scheme.{Scheme}
 use Rattle.scheme.specs.declared.Scheme.the-variants.{Cenc, Cbc1, Cens, Cbcs}
-use Rattle.scheme.specs.Layout.{Entry, total, mask, restartMask, isCiphered, inWholeBlock, inCryptRun}
+use Rattle.scheme.specs.Layout.{Entry, total, mask, restartMask, isCiphered}
 use Rattle.modes.specs.declared.Direction.{Direction}
 use Rattle.modes.specs.Modes.{Cipher}
 use Rattle.scheme.specs.WholeSample.{whole}
@@ -18,7 +17,7 @@ use Rattle.scheme.specs.Machine.{modeOf, feedSample}
 use Rattle.octets.specs.Bytes.{Bytes}
 use Rattle.scheme.proofs.Pieces.{Sized, heldAfter, feedAll, pieces-released}
 use Rattle.scheme.proofs.Agreement.{start, released}
-use Rattle.scheme.specs.Held.{place, inBlock, heldAt}
+use Rattle.scheme.specs.Held.{heldAt}
 use Rattle.scheme.proofs.Positions.{rank-block}
 
 module _ (crypt skip : ℕ) (es : List Entry) where

@@ -1,13 +1,12 @@
 -- A part of an entry: clear bytes stay, and the rest lies in the range.
 use mathlib.Core.Path.{_≡_, refl, sym, ap, _∙_}
 use mathlib.Core.Bool.{Bool, true, false}
-use mathlib.Core.List.{List, [], _∷_, _++_, append-assoc, append-nil}
-use Prim.Native.Nat.{ℕ, zero, suc, _+_, _-_, _*_, _/_, _%_, _≤_, _<_, min}
-use native.Mathlib.Nat.{add-zero, zero-add}
+use mathlib.Core.List.{List, [], _++_, append-nil}
+use Prim.Native.Nat.{ℕ, _+_, _-_, _≤_, _<_, min}
 use native.Mathlib.Omega.{arith}
-use lib.Dec.{leb, ltb, eqb}
-use lib.ListN.{length, getD, take, drop, replicate, length-append, length-drop, length-take, length-replicate, getD-replicate, List·getD-append, drop-of-length-le, take-append-drop}
-use lib.Seq.{ext-getD, getD-take, getD-drop, drop-drop, take-add, length-take-le, drop-append-add, take-length, take-all}
+use lib.Dec.{ltb}
+use lib.ListN.{length, take, drop, replicate, length-append, length-drop, length-replicate, getD-replicate, List·getD-append, drop-of-length-le, take-append-drop}
+use lib.Seq.{ext-getD, getD-take, getD-drop, drop-drop, take-add, length-take-le, drop-append-add, take-all}
 use borrow.Author.Tests.{ltb-true, ltb-false}
 use borrow.Rule.Slice.PartMut.{putMid}
 use Rattle.modes.specs.declared.Direction.{Direction}
@@ -15,10 +14,9 @@ use Rattle.scheme.specs.declared.Scheme.{Scheme}
 use Rattle.scheme.specs.Layout.{isCiphered, restarts, rangeMarks}
 use Rattle.modes.specs.Modes.{Cipher}
 use Rattle.scheme.proofs.Agreement.{length-range}
-use Rattle.scheme.specs.Layout.{count}
-use Rattle.scheme.specs.Machine.{Mode, Counter, Chain, modeOf}
+use Rattle.scheme.specs.Machine.{modeOf}
 use Rattle.scheme.proofs.Passes.{Passes, passes-join, passes-clear}
-use Rattle.scheme.proofs.Walk.{Free, Pattern, RangeAsks, RangeSays, entryMarks, EntryAsks, EntrySays}
+use Rattle.scheme.proofs.Walk.{RangeAsks, RangeSays, entryMarks, EntryAsks, EntrySays}
 
 module _ (f : ℕ → ℕ → Bool) (a n x m : ℕ) (within : x + m ≤ a + n) where
   abbrev A : List Bool

@@ -1,26 +1,24 @@
 -- The held bytes and a piece, joined and parted.
 use mathlib.Core.Path.{_≡_, refl, sym, ap, _∙_}
 use mathlib.Core.Bool.{Bool, true, false}
-use mathlib.Core.List.{List, [], _∷_, _++_, append-assoc, append-nil}
-use Prim.Native.Nat.{ℕ, zero, suc, _+_, _-_, _*_, _/_, _%_, _≤_, _<_, min}
-use native.Mathlib.Nat.{add-zero, zero-add}
+use mathlib.Core.List.{List, [], _++_, append-nil}
+use Prim.Native.Nat.{ℕ, _+_, _-_, _%_, _≤_, _<_, min}
 use native.Mathlib.Omega.{arith}
 use lib.Dec.{ltb}
 use lib.ListN.{length, getD, take, drop, set, replicate, length-append, length-drop, length-replicate, drop-of-length-le, replicate-append-replicate}
-use lib.Seq.{getD-append-add, getD-drop, take-all, take-at, drop-at, length-take-le, take-append-le, take-append-add, take-append-seam, drop-append-seam}
+use lib.Seq.{getD-append-add, getD-drop, take-all, take-at, drop-at, length-take-le, take-append-le, take-append-add}
 use borrow.Author.Tests.{ltb-true, ltb-false}
 use borrow.Rule.Slice.PartMut.{putMid}
 use Rattle.modes.specs.declared.Direction.{Direction}
 use Rattle.scheme.specs.declared.Scheme.{Scheme}
-use Rattle.scheme.specs.Layout.{Entry, total, mask}
+use Rattle.scheme.specs.Layout.{Entry, mask}
 use Rattle.modes.specs.Modes.{Cipher}
 use Rattle.scheme.proofs.Pieces.{Sized}
 use Rattle.scheme.specs.Layout.{count}
-use Rattle.scheme.specs.Machine.{feedSample}
 use Rattle.scheme.specs.Held.{heldAt}
 use Rattle.scheme.proofs.Holding.{held-few, held-small, piece-asks, piece-says}
 use Rattle.scheme.proofs.Walk.{SampleAsks, SampleSays, FeedAsks, FeedSays}
-use Rattle.octets.proofs.Fill.{Filled, fill-next, take-next, fill-all}
+use Rattle.octets.proofs.Fill.{Filled, fill-next, take-next}
 
 pub byte-later : (h p : List ℕ) (j : ℕ) → length h ≤ j → getD p (j - length h) 0 ≡ getD (h ++ p) j 0
 byte-later h p j l = let e : length h + (j - length h) ≡ j = omega arith in sym (rw e at (getD-append-add h p (j - length h) 0))

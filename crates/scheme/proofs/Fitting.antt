@@ -1,7 +1,7 @@
 -- When a part of a sample fits, and what the transform of a part then is.
 use mathlib.Core.Bool.{Bool, true, false, _&&_}
 use mathlib.Core.List.{List, []}
-use mathlib.Core.Path.{_≡_, refl, sym, ap, _∙_}
+use mathlib.Core.Path.{_≡_, refl, sym, _∙_}
 use Prim.Native.Nat.{ℕ, _+_, _-_, _%_, _≤_}
 use native.Mathlib.Omega.{arith}
 use lib.Dec.{eqb, leb}
@@ -14,8 +14,7 @@ use Rattle.track.specs.declared.Parameters.{Parameters}
 use Rattle.subsample.specs.declared.SubsampleMap.{SubsampleMap}
 use Rattle.subsample.specs.Auxiliary.{longest}
 use Rattle.scheme.specs.Layout.{schemeOf, isCiphered, total, mask, count}
-use Rattle.scheme.specs.Machine.{Stepped, free, feedSample}
-use Rattle.scheme.specs.Held.{heldAt}
+use Rattle.scheme.specs.Machine.{free, feedSample}
 use Rattle.scheme.specs.Part.{protectedEntries, entriesOf, heldUnder, fits, feedUnder, transformed}
 use Rattle.scheme.proofs.Walk.{Pattern, SampleAsks}
 use Rattle.scheme.proofs.SampleParts.{whole-asks}

@@ -1,13 +1,13 @@
 -- Held bytes: a state that holds bytes is the one that comes of feeding them from where nothing is held.
 use mathlib.Core.Path.{_≡_, refl, sym, ap, _∙_}
-use mathlib.Core.Bool.{Bool, true, false, cond}
+use mathlib.Core.Bool.{Bool, true, false}
 use mathlib.Core.List.{List, [], _∷_, _++_, append-assoc, append-nil}
-use Prim.Native.Nat.{ℕ, zero, suc, _+_, _-_, _*_, _/_, _%_, _≤_, _<_}
-use native.Mathlib.Nat.{zero-add, add-zero, suc-inj}
+use Prim.Native.Nat.{ℕ, zero, suc, _+_, _-_, _/_, _%_, _≤_, _<_}
+use native.Mathlib.Nat.{add-zero}
 use native.Mathlib.Omega.{arith}
-use lib.Dec.{leb, ltb, eqb}
-use lib.ListN.{length, getD, take, drop, replicate, length-append, length-replicate, take-append-drop, length-drop, getD-replicate, List·getD-eq-default, drop-of-length-le}
-use lib.Seq.{drop-drop, getD-drop, getD-take, ext-getD, length-take-le, drop-cons, take-all}
+use lib.Dec.{ltb}
+use lib.ListN.{length, getD, take, drop, replicate, length-append, take-append-drop, length-drop, List·getD-eq-default, drop-of-length-le}
+use lib.Seq.{length-take-le, drop-cons, take-all}
 use borrow.Author.Tests.{ne-eqb, lt-ltb, le-ltb, ltb-true, ltb-false}
 use Rattle.modes.specs.declared.Direction.{Direction}
 use Rattle.scheme.specs.declared.Scheme.{Scheme}
@@ -22,7 +22,7 @@ use Rattle.scheme.proofs.Positions.{place-law, marks-at}
 use Rattle.scheme.specs.Held.{heldAt}
 use Rattle.scheme.proofs.Demand.{heldAt-is}
 use Rattle.scheme.specs.Layout.{count}
-use Rattle.scheme.specs.Machine.{State, Stepped, Mode, Counter, Chain, modeOf, chainAt, plain, counted, chained, ciphered, step, feed, feedSample}
+use Rattle.scheme.specs.Machine.{State, Stepped, Mode, Counter, Chain, modeOf, chained, ciphered, step, feed, feedSample}
 use Rattle.scheme.proofs.Passes.{left, feed-joined}
 use Rattle.scheme.proofs.Walk.{Pattern, SampleAsks}
 

@@ -1,19 +1,18 @@
 -- Where a position lies, entry by entry.
 use mathlib.Core.Path.{_≡_, refl, sym, ap, _∙_}
-use mathlib.Core.Bool.{Bool, true, false, cond}
+use mathlib.Core.Bool.{Bool, true, false}
 use mathlib.Core.List.{List, [], _∷_, _++_}
-use Prim.Native.Nat.{ℕ, zero, suc, _+_, _-_, _*_, _/_, _%_, _^_, _≤_, _<_}
+use Prim.Native.Nat.{ℕ, _+_, _-_, _*_, _%_, _^_, _≤_, _<_}
 use native.Mathlib.Nat.{add-zero, zero-add}
 use native.Mathlib.Omega.{arith}
-use lib.Dec.{ltb}
-use lib.ListN.{length, getD, take, drop, replicate, length-replicate}
+use lib.ListN.{take, drop, replicate, length-replicate}
 use lib.Seq.{take-append-le, take-nil, take-all}
 use borrow.Author.Tests.{lt-ltb, le-ltb}
 use Rattle.scheme.specs.declared.Scheme.{Scheme}
 use Rattle.scheme.specs.declared.Scheme.the-variants.{Cenc, Cbc1, Cens, Cbcs}
 use Rattle.scheme.specs.Layout.{Entry, entry, isCiphered, rangeMarks, marks, mask}
 use Rattle.scheme.proofs.Agreement.{length-range}
-use Rattle.scheme.specs.Held.{Place, Clear, Inside, place, inPlace, inBlock}
+use Rattle.scheme.specs.Held.{Clear, Inside, place, inPlace, inBlock}
 use Rattle.scheme.proofs.Positions.{rank-block, count-run, count-none, count-after}
 use Rattle.scheme.specs.Layout.{count}
 use Rattle.scheme.proofs.Walk.{Located, isCenc, counts}

@@ -1,26 +1,23 @@
 -- A part of a sample as the machine passes it, wherever it lies: it meets the marks ms and fs, and begins and ends with nothing held.
 use mathlib.Core.Path.{_≡_, refl, sym, ap, _∙_}
 use mathlib.Core.Bool.{Bool, true, false, cond}
-use mathlib.Core.List.{List, [], _∷_, _++_, append-assoc, append-nil}
-use Prim.Native.Nat.{ℕ, zero, suc, _+_, _-_, _*_, _/_, _%_, _≤_, _<_}
-use native.Mathlib.Nat.{zero-add, add-zero, suc-add}
+use mathlib.Core.List.{List, [], _∷_, _++_, append-assoc}
+use Prim.Native.Nat.{ℕ, zero, suc, _+_, _*_, _/_, _%_, _≤_, _<_}
+use native.Mathlib.Nat.{add-zero}
 use native.Mathlib.Omega.{arith}
-use lib.Dec.{eqb}
 use lib.ListN.{length, getD, take, drop, replicate, length-append, length-replicate, take-append-drop, length-drop, replicate-append-replicate}
-use lib.Seq.{drop-drop, drop-at, take-add, take-at, length-take-le}
-use Rattle.octets.specs.Xor.{_⊕_}
-use borrow.Author.Tests.{eqb-true, eqb-false}
+use lib.Seq.{take-add, take-at, length-take-le}
 use Rattle.modes.specs.declared.Direction.{Direction}
 use Rattle.modes.specs.Modes.{Cipher, counterAt, streamByte, ctr, blockOut, blockChain, cbc, chainEnd}
 use Rattle.octets.specs.Bytes.{Bytes}
-use Rattle.modes.proofs.Counter.{steps, no-step}
+use Rattle.modes.proofs.Counter.{no-step}
 use Rattle.modes.proofs.Chained.{cbc-step, end-step, cbc-rest, end-rest}
-use Rattle.scheme.proofs.Pieces.{Sized, count-marked, count-unmarked, feed-append, feed-append-state}
+use Rattle.scheme.proofs.Pieces.{Sized, count-marked}
 use Rattle.scheme.proofs.Agreement.{next-block, drop-head, drop-tail, drop-part, block-feed}
 use Rattle.scheme.specs.Machine.{free}
 use Rattle.scheme.proofs.Positions.{count-append}
 use Rattle.scheme.specs.Layout.{count}
-use Rattle.scheme.specs.Machine.{State, Stepped, Mode, Counter, Chain, chainAt, plain, counted, chained, ciphered, step, feed}
+use Rattle.scheme.specs.Machine.{State, Stepped, Mode, Counter, Chain, plain, counted, ciphered, step, feed}
 
 -- the state and the bytes that a part leaves
 abbrev pub left : ℕ → List ℕ → List ℕ → Stepped

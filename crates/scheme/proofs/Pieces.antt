@@ -2,16 +2,15 @@
 use mathlib.Core.Path.{_≡_, refl, sym, ap, _∙_}
 use mathlib.Core.Bool.{Bool, true, false, cond}
 use mathlib.Core.List.{List, [], _∷_, _++_, append-assoc, flatten}
-use Prim.Native.Nat.{ℕ, zero, suc, _+_, _/_, _%_, _≤_, _<_}
-use native.Mathlib.Nat.{zero-add, add-zero, suc-add, suc-inj}
+use Prim.Native.Nat.{ℕ, zero, suc, _+_, _%_}
+use native.Mathlib.Nat.{add-zero, suc-add}
 use native.Mathlib.Omega.{arith}
 use lib.Dec.{eqb}
-use lib.ListN.{length, getD, take, drop, length-append, length-drop}
-use lib.Seq.{getD-drop, drop-drop}
+use lib.ListN.{length, getD, take, length-append}
 use borrow.Author.Tests.{eqb-true, eqb-false}
 use Rattle.modes.specs.declared.Direction.{Direction}
 use Rattle.modes.specs.declared.Direction.the-variants.{Lock, Open}
-use Rattle.modes.specs.Modes.{Cipher, xors, blockOut, blockChain}
+use Rattle.modes.specs.Modes.{Cipher, xors, blockOut}
 use Rattle.scheme.specs.Layout.{count}
 use Rattle.scheme.specs.Machine.{State, Stepped, Mode, Counter, Chain, chainAt, plain, counted, chained, ciphered, step, feed}
 
@@ -74,11 +73,6 @@ module _ (E D : Cipher) (d : Direction) (k : Mode) (iv : List ℕ) (M F : List B
         state = feedAll (feed E D d k iv M F t p .state) ps .state;
         released = feed E D d k iv M F t p .released ++ feedAll (feed E D d k iv M F t p .state) ps .released;
       }
-
-  pub pieces-state : (t : State) (ps : List (List ℕ)) → feedAll t ps .state ≡ feed E D d k iv M F t (flatten ps) .state
-  unfolding feedAll feed flatten
-  pieces-state t [] = refl
-  pieces-state t (p ∷ ps) = pieces-state (feed E D d k iv M F t p .state) ps ∙ sym (feed-append-state t p (flatten ps))
 
   pub pieces-released : (t : State) (ps : List (List ℕ)) → feedAll t ps .released ≡ feed E D d k iv M F t (flatten ps) .released
   unfolding feedAll feed flatten

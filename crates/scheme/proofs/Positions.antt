@@ -1,17 +1,17 @@
 -- Where a position lies, and what that says of its byte and of the bytes held there.
 use mathlib.Core.Path.{_≡_, refl, sym, ap, _∙_}
 use mathlib.Core.Bool.{Bool, true, false, cond, _&&_}
-use mathlib.Core.List.{List, [], _∷_, _++_, append-assoc, append-nil}
+use mathlib.Core.List.{List, [], _∷_, _++_, append-nil}
 use Prim.Native.Nat.{ℕ, zero, suc, _+_, _-_, _*_, _/_, _%_, _≤_, _<_}
 use native.Mathlib.Nat.{zero-add, add-zero, suc-add}
 use native.Mathlib.Omega.{arith}
-use lib.Dec.{leb, ltb, eqb}
-use lib.ListN.{length, getD, take, drop, replicate, length-append, length-replicate, getD-replicate, List·getD-append}
+use lib.Dec.{ltb}
+use lib.ListN.{length, getD, take, replicate, length-replicate, getD-replicate, List·getD-append}
 use lib.Seq.{getD-append-add, take-append-le, take-append-add, take-all, take-nil}
-use borrow.Author.Tests.{ltb-true, ltb-false, lt-ltb, le-ltb}
+use borrow.Author.Tests.{ltb-true, ltb-false, le-ltb}
 use Rattle.scheme.specs.declared.Scheme.{Scheme}
 use Rattle.scheme.specs.declared.Scheme.the-variants.{Cenc, Cbc1, Cens, Cbcs}
-use Rattle.scheme.specs.Layout.{Entry, total, inWholeBlock, inCryptRun, tabulate, isCiphered, rangeMarks, marks, mask}
+use Rattle.scheme.specs.Layout.{Entry, inWholeBlock, inCryptRun, tabulate, isCiphered, rangeMarks, marks, mask}
 use Rattle.scheme.specs.Layout.{count}
 use Rattle.scheme.specs.Held.{Place, Clear, Inside, place, inPlace, inBlock}
 use Rattle.scheme.proofs.Pieces.{cond-law}

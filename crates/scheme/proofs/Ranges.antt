@@ -1,12 +1,12 @@
 -- A part of a protected range, one run a turn.
 use mathlib.Core.Path.{_≡_, refl, sym, ap, _∙_}
 use mathlib.Core.Bool.{Bool, true, false}
-use mathlib.Core.List.{List, [], _∷_, _++_, append-assoc, append-nil}
-use Prim.Native.Nat.{ℕ, zero, suc, _+_, _-_, _*_, _/_, _%_, _≤_, _<_, min}
-use native.Mathlib.Nat.{add-zero, zero-add}
+use mathlib.Core.List.{List, [], _++_}
+use Prim.Native.Nat.{ℕ, _+_, _-_, _/_, _%_, _≤_, _<_, min}
+use native.Mathlib.Nat.{add-zero}
 use native.Mathlib.Omega.{arith}
-use lib.Dec.{leb, ltb, eqb}
-use lib.ListN.{length, getD, take, drop, replicate, length-append, length-drop, length-take, length-replicate, getD-replicate}
+use lib.Dec.{ltb}
+use lib.ListN.{length, take, drop, replicate, length-drop, length-replicate, getD-replicate}
 use lib.Seq.{take-length, ext-getD, getD-take, getD-drop, drop-drop, take-add, length-take-le}
 use borrow.Author.Tests.{ne-eqb, ltb-true, ltb-false}
 use borrow.Rule.Slice.PartMut.{putMid}
@@ -19,7 +19,7 @@ use Rattle.scheme.proofs.Agreement.{length-range}
 use Rattle.scheme.proofs.Positions.{getD-range}
 use Rattle.scheme.specs.Machine.{Mode, Counter, Chain, modeOf}
 use Rattle.scheme.proofs.Passes.{Passes, passes-none, passes-join, passes-clear}
-use Rattle.scheme.proofs.Walk.{RestartsAt, Blocks, Free, Pattern, RunAt, RangeAsks, RangeSays}
+use Rattle.scheme.proofs.Walk.{RestartsAt, Blocks, Free, RunAt, RangeAsks, RangeSays}
 use Rattle.octets.proofs.Fill.{Filled, fill-none, fill-length, fill-all, fill-drop, fill-part, fill-keep}
 
 -- ---- the marks that a run meets

@@ -1,16 +1,16 @@
 -- The runs of a range.
 use mathlib.Core.Path.{_≡_, refl, sym, ap, _∙_}
 use mathlib.Core.Bool.{Bool, true, false, _&&_}
-use Prim.Native.Nat.{ℕ, zero, suc, _+_, _-_, _*_, _/_, _%_, _^_, _≤_, _<_, min}
+use Prim.Native.Nat.{ℕ, _+_, _-_, _*_, _/_, _%_, _≤_, _<_, min}
 use native.Mathlib.Nat.{mod-eq-of-lt, mul-add-mod-self-left, div-add-mod, mod-le, mod-lt}
 use native.Mathlib.Omega.{arith}
-use lib.Dec.{leb, ltb, eqb}
+use lib.Dec.{ltb}
 use borrow.Author.Tests.{lt-ltb, le-ltb, ltb-true}
 use Rattle.scheme.specs.declared.Scheme.{Scheme}
 use Rattle.scheme.specs.declared.Scheme.the-variants.{Cenc, Cbc1, Cens, Cbcs}
 use Rattle.scheme.specs.Layout.{inWholeBlock, inCryptRun, isCiphered}
-use Rattle.scheme.specs.Machine.{Mode, Counter, Chain, modeOf}
-use Rattle.scheme.proofs.Walk.{Free, Pattern, RunAt}
+use Rattle.scheme.specs.Machine.{Counter, Chain, modeOf}
+use Rattle.scheme.proofs.Walk.{RunAt}
 
 -- a counter scheme is no chain scheme, and a test that failed did not hold
 pub apart : {A : Type 0} → Counter ≡ Chain → A

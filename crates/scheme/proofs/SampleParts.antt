@@ -1,33 +1,30 @@
 -- A part of a sample, one entry a turn.
 use mathlib.Core.Path.{_≡_, refl, sym, ap, _∙_}
 use mathlib.Core.Bool.{Bool, true, false}
-use mathlib.Core.List.{List, [], _∷_, _++_, append-assoc, append-nil}
+use mathlib.Core.List.{List, [], _∷_, _++_, append-assoc}
 use Prim.Native.Nat.{ℕ, zero, suc, _+_, _-_, _*_, _/_, _%_, _^_, _≤_, _<_, min}
 use native.Mathlib.Nat.{add-zero, zero-add}
 use native.Mathlib.Numerals.{add-one}
 use native.Mathlib.Omega.{arith}
-use lib.Dec.{leb, ltb, eqb}
-use lib.ListN.{length, getD, take, drop, replicate, length-append, length-drop, length-replicate, take-append-drop, drop-of-length-le}
-use lib.Seq.{drop-drop, take-add, length-take-le, drop-append-le, take-append-le, drop-append-add, take-length, drop-at, drop-cons, drop-nil}
-use borrow.Author.Tests.{ltb-true, ltb-false, lt-ltb, le-ltb}
+use lib.Dec.{ltb}
+use lib.ListN.{length, getD, take, drop, replicate, length-append, length-drop, length-replicate, take-append-drop}
+use lib.Seq.{drop-drop, take-add, length-take-le, drop-append-le, take-append-le, drop-append-add, take-length, drop-at, drop-nil}
+use borrow.Author.Tests.{ltb-true, ltb-false, le-ltb}
 use borrow.Rule.Slice.PartMut.{putMid}
 use Rattle.modes.specs.declared.Direction.{Direction}
 use Rattle.scheme.specs.declared.Scheme.{Scheme}
 use Rattle.scheme.specs.declared.Scheme.the-variants.{Cenc, Cbc1, Cens, Cbcs}
-use Rattle.scheme.specs.Layout.{Entry, entry, entries, total, inWholeBlock, inCryptRun, isCiphered, restarts, rangeMarks, marks, mask, restartMask}
+use Rattle.scheme.specs.Layout.{Entry, entry, entries, total, inWholeBlock, isCiphered, restarts, rangeMarks, marks, mask, restartMask}
 use Rattle.modes.specs.Modes.{Cipher}
-use Rattle.scheme.proofs.Agreement.{length-range, machine-whole}
-use Rattle.scheme.specs.Machine.{free}
-use Rattle.scheme.specs.WholeSample.{whole}
-use Rattle.octets.specs.Bytes.{Bytes}
-use Rattle.scheme.proofs.Pieces.{cond-law, heldAfter, Sized}
-use Rattle.scheme.specs.Held.{Place, Clear, Inside, place, inPlace, inBlock}
-use Rattle.scheme.proofs.Positions.{place-law, rank-block}
+use Rattle.scheme.proofs.Agreement.{length-range}
+use Rattle.scheme.proofs.Pieces.{cond-law, heldAfter}
+use Rattle.scheme.specs.Held.{Place, place, inPlace, inBlock}
+use Rattle.scheme.proofs.Positions.{place-law}
 use Rattle.scheme.specs.Held.{heldAt}
 use Rattle.scheme.proofs.Demand.{heldAt-is}
 use Rattle.scheme.specs.Layout.{count}
-use Rattle.scheme.specs.Machine.{Stepped, Mode, Counter, Chain, modeOf, feedSample}
-use Rattle.scheme.proofs.Passes.{Passes, passes-none, passes-join, left, count-part}
+use Rattle.scheme.specs.Machine.{Chain, modeOf, feedSample}
+use Rattle.scheme.proofs.Passes.{Passes, passes-none, passes-join, count-part}
 use Rattle.scheme.proofs.Walk.{Free, Pattern, entryMarks, EntryAsks, EntrySays, SampleAsks, SampleSays}
 use Rattle.octets.proofs.Fill.{Filled, fill-none, fill-length, fill-all, fill-drop, fill-part}
 use Rattle.scheme.proofs.Runs.{apart}
@@ -312,10 +309,6 @@ module _ (crypt skip : ℕ) where
         to = rw z (held-no s es (total es) (held-end s es));
         rank = refl;
       }
-
-pub whole-says : (E D : Cipher) → Sized E → Sized D → (d : Direction) (s : Scheme) (crypt skip : ℕ) (iv : List ℕ) → Bytes 16 iv → (es : List Entry) (xs : List ℕ) (u : ℕ) (c ys : List ℕ)
-    → Pattern s crypt skip → length xs ≡ total es → SampleSays E D d s crypt skip iv es 0 iv xs u c ys → ys ≡ whole E D iv crypt skip es d s xs
-whole-says E D sE sD d s crypt skip iv bytes es xs u c ys p l w = sym (ap (λ (t : Stepped). t .released) (w .fed)) ∙ machine-whole E D sE sD d iv bytes crypt skip es s (p .first) xs l
 
 -- ---- the entries of a map
 

@@ -1,13 +1,12 @@
 -- The machine under parameters and a map, from the start on, gives what the whole-sample definition makes of the sample.
-use mathlib.Core.Bool.{Bool, true, false, cond}
-use mathlib.Core.List.{List, [], _∷_, _++_}
-use mathlib.Core.Path.{_≡_, refl, sym, ap, _∙_}
-use Prim.Native.Nat.{ℕ, zero, suc, _+_, _-_, _≤_}
+use mathlib.Core.Bool.{Bool, true, false}
+use mathlib.Core.List.{List, [], _∷_}
+use mathlib.Core.Path.{_≡_, refl, sym, _∙_}
+use Prim.Native.Nat.{ℕ, _+_, _-_, _≤_}
 use native.Mathlib.Omega.{arith}
 use lib.Dec.{eqb}
 use lib.ListN.{length, getD, take}
-use lib.Seq.{length-take-le, take-length, take-all}
-use borrow.Author.Tests.{eqb-true, eqb-false}
+use borrow.Author.Tests.{eqb-true}
 use Rattle.octets.specs.Bytes.{Bytes}
 use Rattle.modes.specs.declared.Direction.{Direction}
 use Rattle.modes.specs.Modes.{Cipher}
@@ -15,12 +14,11 @@ use Rattle.track.specs.declared.Parameters.{Parameters}
 use Rattle.subsample.specs.declared.SubsampleMap.{SubsampleMap}
 use Rattle.scheme.specs.declared.Scheme.{Scheme}
 use Rattle.scheme.specs.declared.Scheme.the-variants.{Cenc, Cbc1, Cens, Cbcs}
-use Rattle.scheme.specs.Layout.{schemeOf, isCiphered, restarts, Entry, entry, total, mask, restartMask, count}
-use Rattle.scheme.specs.WholeSample.{whole}
-use Rattle.scheme.specs.Machine.{State, Stepped, Mode, Counter, Chain, modeOf, free, chainAt, plain, counted, chained, ciphered, step, feed, feedSample}
-use Rattle.scheme.specs.Held.{Place, Clear, Inside, place, inPlace, heldAt}
+use Rattle.scheme.specs.Layout.{schemeOf, isCiphered, restarts, Entry, entry, total, mask, restartMask}
+use Rattle.scheme.specs.Machine.{State, Mode, Counter, Chain, modeOf, free, chainAt, plain, counted, chained, ciphered, step, feed, feedSample}
+use Rattle.scheme.specs.Held.{Place, Clear, Inside, place, inPlace}
 use Rattle.scheme.specs.Part as part
-use Rattle.scheme.proofs.Pieces.{Sized, heldAfter}
+use Rattle.scheme.proofs.Pieces.{Sized}
 use Rattle.scheme.proofs.Agreement.{machine-whole, released}
 use Rattle.scheme.proofs.Demand.{heldAt-is}
 use Rattle.scheme.proofs.Positions.{marks-at}

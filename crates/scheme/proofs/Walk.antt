@@ -1,9 +1,9 @@
 -- What the walk over a sample's map says of a run, of a range's part and of an entry's part.
-use mathlib.Core.Path.{_≡_, refl, sym, ap, _∙_}
+use mathlib.Core.Path.{_≡_}
 use mathlib.Core.Bool.{Bool, true, false, cond}
-use mathlib.Core.List.{List, [], _∷_, _++_}
-use Prim.Native.Nat.{ℕ, zero, suc, _+_, _-_, _*_, _/_, _%_, _^_, _≤_, _<_}
-use lib.ListN.{length, getD, take, drop, replicate}
+use mathlib.Core.List.{List, _++_}
+use Prim.Native.Nat.{ℕ, _+_, _-_, _%_, _^_, _≤_, _<_}
+use lib.ListN.{length, take, drop, replicate}
 use Rattle.modes.specs.declared.Direction.{Direction}
 use Rattle.scheme.specs.declared.Scheme.{Scheme}
 use Rattle.scheme.specs.declared.Scheme.the-variants.{Cenc, Cbc1, Cens, Cbcs}
@@ -13,7 +13,7 @@ use Rattle.scheme.specs.Layout.{count}
 use Rattle.scheme.specs.Machine.{Mode, Counter, Chain, modeOf, feedSample}
 use Rattle.scheme.specs.Machine.{free}
 use Rattle.scheme.specs.Held.{heldAt}
-use Rattle.scheme.specs.Held.{Place, Clear, Inside, place}
+use Rattle.scheme.specs.Held.{Clear, Inside, place}
 use Rattle.scheme.proofs.Passes.{Passes, left}
 
 -- the scheme is one of the counter mode's
