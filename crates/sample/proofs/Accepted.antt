@@ -48,7 +48,8 @@ zeros-bytes n = record { size = length-replicate n 0; small = small n }
 pub filled-bytes : (n : ℕ) (s : List ℕ) → ((i : ℕ) → getD s i 0 < 256) → Bytes n (filled n s)
 unfolding filled
 filled-bytes n s h =
-    bytes-take n (s ++ replicate n 0) (bytes-append {xs = s} (record { size = refl; small = h }) (zeros-bytes n) refl) (filled-length n s)
+    bytes-take n (s ++ replicate n 0) (bytes-append {xs = s} (record { size = refl; small = h }) (zeros-bytes n) refl)
+    (filled-length n s)
 
 module _ (code box aux keys : List ℕ) (n : ℕ) (h : answer (sampleRows code box aux keys n) ≡ 0) where
   abbrev p : Parameters
@@ -90,7 +91,8 @@ module _ (code box aux keys : List ℕ) (n : ℕ) (h : answer (sampleRows code b
       record {
         low = omega (arith, small .0);
         high = omega (arith, small .1);
-        first = first-ciphered (p .«iv_size») (p .crypt) (p .skip) (p .code) (sound .known-code) (allowed-protected p (sound .permitted) one);
+        first = first-ciphered (p .«iv_size») (p .crypt) (p .skip) (p .code) (sound .known-code)
+            (allowed-protected p (sound .permitted) one);
       }
 
   module _ (hb : (i : ℕ) → getD box i 0 < 256) (ha : (i : ℕ) → getD aux i 0 < 256) where
@@ -98,9 +100,12 @@ module _ (code box aux keys : List ℕ) (n : ℕ) (h : answer (sampleRows code b
     unfolding ivRead fields
     iv-bytes = go (hasConstant (p .protected) (p .«iv_size»)) refl
       where
-        go : (t : Bool) → hasConstant (p .protected) (p .«iv_size») ≡ t → Bytes 16 (cond t (cond t (filled 16 (drop 33 box)) zeros) (filled 16 (take (p .«iv_size») aux)))
+        go : (t : Bool) → hasConstant (p .protected) (p .«iv_size») ≡ t
+            → Bytes 16 (cond t (cond t (filled 16 (drop 33 box)) zeros) (filled 16 (take (p .«iv_size») aux)))
         go true e = filled-bytes 16 (drop 33 box) (bytes-drop 33 box (record { size = refl; small = hb }) refl .small)
-        go false e = filled-bytes 16 (take (p .«iv_size») aux) (bytes-take (p .«iv_size») aux (record { size = refl; small = ha }) refl .small)
+        go false e =
+            filled-bytes 16 (take (p .«iv_size») aux)
+            (bytes-take (p .«iv_size») aux (record { size = refl; small = ha }) refl .small)
 
     -- the IV is one to begin with
     pub begins : Begins p (ivRead p aux)
@@ -110,7 +115,9 @@ module _ (code box aux keys : List ℕ) (n : ℕ) (h : answer (sampleRows code b
           bytes = iv-bytes;
           first = λ one. pattern one .first;
           constant = λ one s.
-              let z : p .«iv_size» ≡ 0 = cbcs-constant (p .«iv_size») (p .crypt) (p .skip) (p .code) (sound .known-code) (allowed-protected p (sound .permitted) one) s in
+              let z : p .«iv_size» ≡ 0 =
+              cbcs-constant (p .«iv_size») (p .crypt) (p .skip) (p .code) (sound .known-code)
+              (allowed-protected p (sound .permitted) one) s in
               rw (one, z);
         }
 
@@ -124,9 +131,11 @@ module _ (code box aux keys : List ℕ) (n : ℕ) (h : answer (sampleRows code b
             → transformed E D d p m n 0 (ivRead p aux) xs .released ≡ ciphered E D d p m (ivRead p aux) xs
         go true e =
             let one : p .protected ≡ 1 = eqb-true (p .protected) 1 e in
-            let f : fits p m n 0 n ≡ true = fits-whole p m n one length-allowed (pattern one) (protected-total p m n clear-places protected-places map-accepted) in
+            let f : fits p m n 0 n ≡ true =
+            fits-whole p m n one length-allowed (pattern one) (protected-total p m n clear-places protected-places map-accepted) in
             rw (l, f) (rw l at (fed-whole E D sE sD d p m (ivRead p aux) begins xs (rw l (sym accepted-length))))
-        go false e = transformed-clear E D d p m n 0 (ivRead p aux) xs e .0 ∙ sym (clear-ciphered E D d p m n e (ivRead p aux) xs l)
+        go false e =
+            transformed-clear E D d p m n 0 (ivRead p aux) xs e .0 ∙ sym (clear-ciphered E D d p m n e (ivRead p aux) xs l)
 
 -- a refusal changes nothing
 pub after-refusal : (d : Direction) (code box aux keys xs : List ℕ) → (answer (sampleRows code box aux keys (length xs)) ≡ 0 → ⊥)
@@ -144,11 +153,13 @@ module _ (code box aux keys xs : List ℕ) (i : Inputs) (ei : i ≡ readInputs c
   after-refused d h = sym (after-refusal d code box aux keys xs (λ e. h (inputs-number ∙ e)))
 
   pub after-done : (d : Direction) → i .number ≡ 0 → ((j : ℕ) → getD box j 0 < 256) → ((j : ℕ) → getD aux j 0 < 256)
-      → transformed (encipher (roundKeys (i .key .0))) (decipher (roundKeys (i .key .0))) d (i .parameters) (i .map) (length xs) 0 (i .iv .0) xs .released
+      → transformed (encipher (roundKeys (i .key .0))) (decipher (roundKeys (i .key .0))) d (i .parameters) (i .map) (length xs) 0
+      (i .iv .0) xs .released
       ≡ sampleAfter d code box aux keys xs
   unfolding sampleAfter cipheredBy
   after-done d z hb ha =
       let h : answer (sampleRows code box aux keys (length xs)) ≡ 0 = sym inputs-number ∙ z in
       let ks = roundKeys (keyIn (fields code box) keys) in
       rw (ei, inputs-accepted code box aux keys (length xs) h, h)
-      (transformed-whole code box aux keys (length xs) h hb ha (encipher ks) (decipher ks) (λ b l. encipher-length ks b) (λ b l. decipher-length ks b) d xs refl)
+      (transformed-whole code box aux keys (length xs) h hb ha (encipher ks) (decipher ks) (λ b l. encipher-length ks b)
+      (λ b l. decipher-length ks b) d xs refl)

@@ -23,7 +23,8 @@ iv-length : (code box aux : List ℕ) → length (ivRead (fields code box) aux) 
 unfolding ivRead fields
 iv-length code box aux = go (hasConstant (fields code box .protected) (fields code box .«iv_size»))
   where
-    go : (t : Bool) → length (cond t (cond t (filled 16 (drop 33 box)) zeros) (filled 16 (take (fields code box .«iv_size») aux))) ≡ 16
+    go : (t : Bool)
+        → length (cond t (cond t (filled 16 (drop 33 box)) zeros) (filled 16 (take (fields code box .«iv_size») aux))) ≡ 16
     go true = filled-length 16 (drop 33 box)
     go false = filled-length 16 (take (fields code box .«iv_size») aux)
 
@@ -50,10 +51,12 @@ module _ (code box aux keys : List ℕ) (n : ℕ) (h : answer (sampleRows code b
   module _ (i j : ℕ) (hi : i < blocks) (hj : j < blocks) where
     pub no-block-twice : counterAt iv i ≡ counterAt iv j → i ≡ j
     no-block-twice =
-        counters.no-block-twice (schemeOf (p .code)) (p .crypt) (p .skip) layout fits iv (omega (arith, iv-length code box aux)) i j hi hj
+        counters.no-block-twice (schemeOf (p .code)) (p .crypt) (p .skip) layout fits iv
+        (omega (arith, iv-length code box aux)) i j hi hj
 
     -- the same of the list of them
     pub no-block-listed-twice : getD (counterBlocks (schemeOf (p .code)) (p .crypt) (p .skip) layout iv) i []
         ≡ getD (counterBlocks (schemeOf (p .code)) (p .crypt) (p .skip) layout iv) j [] → i ≡ j
     no-block-listed-twice =
-        counters.no-block-listed-twice (schemeOf (p .code)) (p .crypt) (p .skip) layout fits iv (omega (arith, iv-length code box aux)) i j hi hj
+        counters.no-block-listed-twice (schemeOf (p .code)) (p .crypt) (p .skip) layout fits iv
+        (omega (arith, iv-length code box aux)) i j hi hj

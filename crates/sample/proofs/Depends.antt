@@ -41,7 +41,8 @@ filled-alike n a b h = filled-listOf n a ∙ listOf-alike n (λ i. getD a i 0) (
 
 module _ {box box′ aux aux′ keys keys′ : List ℕ} (s : AlikeInputs box box′ aux aux′ keys keys′) where
   pub boxes-alike : Alike box box′
-  boxes-alike = record { size = s .box-size; front = λ i h. s .box-front i (omega arith); constant-size = s .box-front 32 (omega arith) }
+  boxes-alike =
+      record { size = s .box-size; front = λ i h. s .box-front i (omega arith); constant-size = s .box-front 32 (omega arith) }
 
   module _ (code : List ℕ) (n : ℕ) where
     data-alike : AlikeData (fields code box) (fields code box′) aux aux′
@@ -65,7 +66,8 @@ module _ {box box′ aux aux′ keys keys′ : List ℕ} (s : AlikeInputs box bo
     unfolding sampleRows
     inputs-alike =
         join-alike (read-refusals code box) (read-refusals code box′) _ _ (read-alike boxes-alike code)
-        (join-alike (key-refusals (fields code box) keys) (key-refusals (fields code box′) keys′) _ _ (ap answer key-alike) (auxiliary-alike data-alike n))
+        (join-alike (key-refusals (fields code box) keys) (key-refusals (fields code box′) keys′) _ _ (ap answer key-alike)
+        (auxiliary-alike data-alike n))
 
   pub calls-alike : (code xs xs′ : List ℕ) → length xs ≡ length xs′
       → answer (sampleRows code box aux keys (length xs)) ≡ answer (sampleRows code box′ aux′ keys′ (length xs′))

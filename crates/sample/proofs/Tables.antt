@@ -75,7 +75,8 @@ module _ (code box aux keys : List ℕ) (n : ℕ) (r : BoxRead) (er : r ≡ read
 
   pub refused-box : (r .number ≡ 0 → ⊥) → readInputs code box aux keys n ≡ refusal (r .number)
   refused-box h =
-      inputs-refused code box aux keys n (r .number) (box-decides code box aux keys n (λ e. h (box-number ∙ e)) ∙ sym box-number) h
+      inputs-refused code box aux keys n (r .number)
+      (box-decides code box aux keys n (λ e. h (box-number ∙ e)) ∙ sym box-number) h
 
   module _ (h0 : r .number ≡ 0) (k : KeyFound) (ek : k ≡ findKey (r .parameters) keys) where
     b : answer (readRows code box) ≡ 0
@@ -91,7 +92,8 @@ module _ (code box aux keys : List ℕ) (n : ℕ) (r : BoxRead) (er : r ≡ read
 
     pub refused-key : (k .number ≡ 0 → ⊥) → readInputs code box aux keys n ≡ refusal (k .number)
     refused-key h =
-        inputs-refused code box aux keys n (k .number) (key-decides code box aux keys n b (λ e. h (key-number ∙ e)) ∙ sym key-number) h
+        inputs-refused code box aux keys n (k .number)
+        (key-decides code box aux keys n b (λ e. h (key-number ∙ e)) ∙ sym key-number) h
 
     module _ (h1 : k .number ≡ 0) (u : AuxiliaryRead) (eu : u ≡ readUnder (r .parameters) n aux) where
       data-number : u .number ≡ answer (auxiliaryRows (fields code box) n aux)
@@ -105,7 +107,8 @@ module _ (code box aux keys : List ℕ) (n : ℕ) (r : BoxRead) (er : r ≡ read
       refused-data h = inputs-refused code box aux keys n (u .number) decided h
 
       pub read-done : u .number ≡ 0
-          → record { number = 0; parameters = r .parameters; key = k .key; map = u .map; iv = u .iv } ≡ readInputs code box aux keys n
+          → record { number = 0; parameters = r .parameters; key = k .key; map = u .map; iv = u .iv }
+          ≡ readInputs code box aux keys n
       unfolding findKey readUnder auxiliary.handedOut
       read-done h =
           rw (inputs-accepted code box aux keys n (decided ∙ h), ek, eu, parameters, sym key-number ∙ h1, sym data-number ∙ h)

@@ -30,10 +30,13 @@ module _ (crypt skip : ℕ) (es : List Entry) where
 
 module _ (E D : Cipher) (sE : Sized E) (sD : Sized D) (d : Direction) (iv : List ℕ) (bytes : Bytes 16 iv)
     (crypt skip : ℕ) (es : List Entry) where
-  pub pieces : (s : Scheme) → isCiphered s crypt skip 16 0 ≡ true → (ps : List (List ℕ)) (rest : List ℕ) → length (flatten ps ++ rest) ≡ total es
+  pub pieces : (s : Scheme) → isCiphered s crypt skip 16 0 ≡ true → (ps : List (List ℕ)) (rest : List ℕ)
+      → length (flatten ps ++ rest) ≡ total es
       → feedAll E D d (modeOf s) iv (mask s crypt skip es) (restartMask s es) (start iv) ps .released
-      ≡ take (length (flatten ps) - heldAt crypt skip es s (length (flatten ps))) (whole E D iv crypt skip es d s (flatten ps ++ rest))
+      ≡ take (length (flatten ps) - heldAt crypt skip es s (length (flatten ps)))
+      (whole E D iv crypt skip es d s (flatten ps ++ rest))
   unfolding feedSample
   pieces s a ps rest l = pieces-released E D d (modeOf s) iv (mask s crypt skip es) (restartMask s es) (start iv) ps
       ∙ (rw (take-append-seam (flatten ps) rest, heldAt-is crypt skip es s (length (flatten ps))) at
-      (released E D sE sD d iv bytes crypt skip es s a (flatten ps ++ rest) l (length (flatten ps)) (simp length-append (omega arith))))
+      (released E D sE sD d iv bytes crypt skip es s a (flatten ps ++ rest) l (length (flatten ps))
+      (simp length-append (omega arith))))

@@ -61,7 +61,8 @@ module _ (p : Parameters) (m : SubsampleMap) (n : ℕ) (one : p .protected ≡ 1
     all = sym (fits-is x k) ∙ f
 
     pub fits-length : n ≤ longest
-    fits-length = leb-true n longest (&&-left a b (&&-left (a && b) c (&&-left (a && b && c) d (&&-left (a && b && c && d) e all))))
+    fits-length =
+        leb-true n longest (&&-left a b (&&-left (a && b) c (&&-left (a && b && c) d (&&-left (a && b && c && d) e all))))
 
     pub fits-asks : SampleAsks (schemeOf (p .code)) (p .crypt) (p .skip) (protectedEntries m n) x k
         (count (take x (mask (schemeOf (p .code)) (p .crypt) (p .skip) (protectedEntries m n))) % 16)
@@ -86,7 +87,8 @@ module _ (E D : Cipher) (d : Direction) (p : Parameters) (m : SubsampleMap) (n x
   unfolding transformed feedUnder
   transformed-fits one f = rw (f, protected-entries p m n one)
 
-  pub transformed-not : fits p m n x (length xs) ≡ false → transformed E D d p m n x c xs ≡ record { state = free x c; released = xs }
+  pub transformed-not : fits p m n x (length xs) ≡ false
+      → transformed E D d p m n x c xs ≡ record { state = free x c; released = xs }
   unfolding transformed
   transformed-not f = rw f
 

@@ -61,9 +61,15 @@ pub record Begins (p : Parameters) (iv : List ℕ) : Type 0 where
 module _ (E D : Cipher) (d : Direction) (crypt skip : ℕ) (v iv : List ℕ) (es : List Entry) (t : State) (xs : List ℕ) where
   one-iv : (s : Scheme) → (s ≡ Cbcs → v ≡ iv) → feedSample E D d s crypt skip v es t xs ≡ feedSample E D d s crypt skip iv es t xs
   unfolding feedSample restarts
-  one-iv Cenc h = feed-never E D d v iv (mask Cenc crypt skip es) (restartMask Cenc es) (λ x. never es x Cenc (λ n o. refl)) (modeOf Cenc) t xs
-  one-iv Cbc1 h = feed-never E D d v iv (mask Cbc1 crypt skip es) (restartMask Cbc1 es) (λ x. never es x Cbc1 (λ n o. refl)) (modeOf Cbc1) t xs
-  one-iv Cens h = feed-never E D d v iv (mask Cens crypt skip es) (restartMask Cens es) (λ x. never es x Cens (λ n o. refl)) (modeOf Cens) t xs
+  one-iv Cenc h =
+      feed-never E D d v iv (mask Cenc crypt skip es) (restartMask Cenc es) (λ x. never es x Cenc (λ n o. refl))
+      (modeOf Cenc) t xs
+  one-iv Cbc1 h =
+      feed-never E D d v iv (mask Cbc1 crypt skip es) (restartMask Cbc1 es) (λ x. never es x Cbc1 (λ n o. refl))
+      (modeOf Cbc1) t xs
+  one-iv Cens h =
+      feed-never E D d v iv (mask Cens crypt skip es) (restartMask Cens es) (λ x. never es x Cens (λ n o. refl))
+      (modeOf Cens) t xs
   one-iv Cbcs h = rw (h refl)
 
 -- of an unprotected track every byte passes
@@ -74,7 +80,8 @@ module _ (E D : Cipher) (d : Direction) (p : Parameters) (m : SubsampleMap) (n :
   unfolding part.feedUnder feedSample part.entriesOf
   clear-fed x c h xs =
       rw e
-      (feed-unmarked E D d (modeOf (schemeOf (p .code))) (p .«constant_iv» .0) (mask (schemeOf (p .code)) (p .crypt) (p .skip) (entry n 0 ∷ []))
+      (feed-unmarked E D d (modeOf (schemeOf (p .code))) (p .«constant_iv» .0)
+      (mask (schemeOf (p .code)) (p .crypt) (p .skip) (entry n 0 ∷ []))
       (restartMask (schemeOf (p .code)) (entry n 0 ∷ [])) (mask-clear (schemeOf (p .code)) (p .crypt) (p .skip) n) x c h xs)
 
   pub clear-held : (x : ℕ) → part.heldUnder p m n x ≡ 0
@@ -85,7 +92,8 @@ module _ (E D : Cipher) (d : Direction) (p : Parameters) (m : SubsampleMap) (n :
   unfolding part.ciphered part.entriesOf
   clear-ciphered iv xs l = rw e (whole-clear E D iv (p .crypt) (p .skip) (length xs) d (schemeOf (p .code)) xs)
 
-module _ (E D : Cipher) (sE : Sized E) (sD : Sized D) (d : Direction) (p : Parameters) (m : SubsampleMap) (iv : List ℕ) (b : Begins p iv)
+module _ (E D : Cipher) (sE : Sized E) (sD : Sized D) (d : Direction) (p : Parameters) (m : SubsampleMap) (iv : List ℕ)
+    (b : Begins p iv)
     (xs : List ℕ) (l : length xs ≡ total (part.entriesOf p m (length xs))) where
   module _ (one : p .protected ≡ 1) where
     abbrev s : Scheme
@@ -94,7 +102,8 @@ module _ (E D : Cipher) (sE : Sized E) (sD : Sized D) (d : Direction) (p : Param
     abbrev es : List Entry
     es = part.entriesOf p m (length xs)
 
-    under-iv : (ys : List ℕ) → part.feedUnder E D d p m (length xs) (free 0 iv) ys ≡ feedSample E D d s (p .crypt) (p .skip) iv es (free 0 iv) ys
+    under-iv : (ys : List ℕ)
+        → part.feedUnder E D d p m (length xs) (free 0 iv) ys ≡ feedSample E D d s (p .crypt) (p .skip) iv es (free 0 iv) ys
     unfolding part.feedUnder
     under-iv ys = one-iv E D d (p .crypt) (p .skip) (p .«constant_iv» .0) iv es (free 0 iv) ys s (b .constant one)
 
@@ -122,12 +131,18 @@ module _ (E D : Cipher) (sE : Sized E) (sD : Sized D) (d : Direction) (p : Param
       go true e = protected-released (eqb-true (p .protected) 1 e) x u
       go false e =
           let z : x - 0 ≡ x = omega arith in
-          rw (clear-fed E D d p m (length xs) e 0 iv [] (take x xs), clear-held E D d p m (length xs) e x, clear-ciphered E D d p m (length xs) e iv xs refl, z)
+          rw (
+            clear-fed E D d p m (length xs) e 0 iv [] (take x xs),
+            clear-held E D d p m (length xs) e x,
+            clear-ciphered E D d p m (length xs) e iv xs refl,
+            z,
+          )
 
   -- and the whole sample's at its end
   pub fed-whole : part.feedUnder E D d p m (length xs) (free 0 iv) xs .released ≡ part.ciphered E D d p m iv xs
   fed-whole = go (eqb (p .protected) 1) refl
     where
-      go : (q : Bool) → eqb (p .protected) 1 ≡ q → part.feedUnder E D d p m (length xs) (free 0 iv) xs .released ≡ part.ciphered E D d p m iv xs
+      go : (q : Bool) → eqb (p .protected) 1 ≡ q
+          → part.feedUnder E D d p m (length xs) (free 0 iv) xs .released ≡ part.ciphered E D d p m iv xs
       go true e = protected-whole (eqb-true (p .protected) 1 e)
       go false e = rw (clear-fed E D d p m (length xs) e 0 iv [] xs, clear-ciphered E D d p m (length xs) e iv xs refl)
