@@ -61,7 +61,7 @@ module _ {box box′ aux aux′ keys keys′ : List ℕ} (s : AlikeInputs box bo
     unfolding keyRows
     key-alike = rw (data-alike .protected, kid-alike, s .record-size, take-alike 16 keys keys′ (s .record-size) (s .record-front))
 
-    -- the same number, for samples of one length
+    -- the same number, for a sample of n bytes
     pub inputs-alike : answer (sampleRows code box aux keys n) ≡ answer (sampleRows code box′ aux′ keys′ n)
     unfolding sampleRows
     inputs-alike =
@@ -69,6 +69,7 @@ module _ {box box′ aux aux′ keys keys′ : List ℕ} (s : AlikeInputs box bo
         (join-alike (key-refusals (fields code box) keys) (key-refusals (fields code box′) keys′) _ _ (ap answer key-alike)
         (auxiliary-alike data-alike n))
 
+  -- and so for two samples of one length, whatever they hold
   pub calls-alike : (code xs xs′ : List ℕ) → length xs ≡ length xs′
       → answer (sampleRows code box aux keys (length xs)) ≡ answer (sampleRows code box′ aux′ keys′ (length xs′))
   calls-alike code xs xs′ l = inputs-alike code (length xs) ∙ ap (λ (n : ℕ). answer (sampleRows code box′ aux′ keys′ n)) l
