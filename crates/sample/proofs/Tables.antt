@@ -1,12 +1,11 @@
 -- The table of a whole-sample call: the first of box, key record and auxiliary data that is refused decides.
-use mathlib.Core.Bool.{Bool, true, false}
 use mathlib.Core.List.{List, _++_}
-use mathlib.Core.Path.{_≡_, refl, sym, ap, _∙_}
+use mathlib.Core.Path.{_≡_, sym, ap, _∙_}
 use Prim.Native.Nat.{ℕ}
-use lib.Dec.{eqb, lit<}
-use borrow.Author.Tests.{eqb-true, eqb-false, ne-eqb}
-use Rattle.octets.specs.Answers.{Row, answer}
-use Rattle.octets.proofs.Answers.{Refusals, none, more, join-done, join-refused}
+use lib.Dec.{lit<}
+use borrow.Author.Tests.{ne-eqb}
+use Rattle.octets.specs.Answers.{answer}
+use Rattle.octets.proofs.Answers.{Refusals, none, more, join-done, join-refused, join-first}
 use Rattle.track.specs.declared.Parameters.{Parameters}
 use Rattle.track.specs.declared.BoxRead.{BoxRead}
 use Rattle.track.specs.Track.{zeros, fields, readRows, unprotected, readBox}
@@ -18,16 +17,9 @@ use Rattle.sample.specs.declared.KeyFound.{KeyFound}
 use Rattle.sample.specs.declared.Inputs.{Inputs}
 use Rattle.sample.specs.Sample.{keyRows, keyIn, findKey, sampleRows, handedOut, readInputs}
 
-key-refusals : (p : Parameters) (keys : List ℕ) → Refusals (keyRows p keys)
+pub key-refusals : (p : Parameters) (keys : List ℕ) → Refusals (keyRows p keys)
 unfolding keyRows
 key-refusals p keys = more (lit< tt) (more (lit< tt) none)
-
-join-first : (rows s : List Row) → answer (rows ++ s) ≡ 0 → answer rows ≡ 0
-join-first rows s h = go (eqb (answer rows) 0) refl
-  where
-    go : (b : Bool) → eqb (answer rows) 0 ≡ b → answer rows ≡ 0
-    go true e = eqb-true (answer rows) 0 e
-    go false e = sym (join-refused rows s (eqb-false (answer rows) 0 e)) ∙ h
 
 module _ (code box aux keys : List ℕ) (n : ℕ) where
   abbrev p : Parameters
@@ -83,7 +75,8 @@ module _ (code box aux keys : List ℕ) (n : ℕ) (r : BoxRead) (er : r ≡ read
 
   pub refused-box : (r .number ≡ 0 → ⊥) → readInputs code box aux keys n ≡ refusal (r .number)
   refused-box h =
-      inputs-refused code box aux keys n (r .number) (box-decides code box aux keys n (λ e. h (box-number ∙ e)) ∙ sym box-number) h
+      inputs-refused code box aux keys n (r .number)
+      (box-decides code box aux keys n (λ e. h (box-number ∙ e)) ∙ sym box-number) h
 
   module _ (h0 : r .number ≡ 0) (k : KeyFound) (ek : k ≡ findKey (r .parameters) keys) where
     b : answer (readRows code box) ≡ 0
@@ -99,7 +92,8 @@ module _ (code box aux keys : List ℕ) (n : ℕ) (r : BoxRead) (er : r ≡ read
 
     pub refused-key : (k .number ≡ 0 → ⊥) → readInputs code box aux keys n ≡ refusal (k .number)
     refused-key h =
-        inputs-refused code box aux keys n (k .number) (key-decides code box aux keys n b (λ e. h (key-number ∙ e)) ∙ sym key-number) h
+        inputs-refused code box aux keys n (k .number)
+        (key-decides code box aux keys n b (λ e. h (key-number ∙ e)) ∙ sym key-number) h
 
     module _ (h1 : k .number ≡ 0) (u : AuxiliaryRead) (eu : u ≡ readUnder (r .parameters) n aux) where
       data-number : u .number ≡ answer (auxiliaryRows (fields code box) n aux)
@@ -113,7 +107,8 @@ module _ (code box aux keys : List ℕ) (n : ℕ) (r : BoxRead) (er : r ≡ read
       refused-data h = inputs-refused code box aux keys n (u .number) decided h
 
       pub read-done : u .number ≡ 0
-          → record { number = 0; parameters = r .parameters; key = k .key; map = u .map; iv = u .iv } ≡ readInputs code box aux keys n
+          → record { number = 0; parameters = r .parameters; key = k .key; map = u .map; iv = u .iv }
+          ≡ readInputs code box aux keys n
       unfolding findKey readUnder auxiliary.handedOut
       read-done h =
           rw (inputs-accepted code box aux keys n (decided ∙ h), ek, eu, parameters, sym key-number ∙ h1, sym data-number ∙ h)

@@ -1,12 +1,12 @@
 -- What allowed parameters and an accepted map say of a sample's layout.
-use mathlib.Core.Bool.{Bool, true, false, cond, not, _&&_, _||_, true≢false}
+use mathlib.Core.Bool.{Bool, true, false, cond, _&&_, _||_, true≢false}
 use mathlib.Core.List.{List, [], _∷_, _++_}
 use mathlib.Core.Logic.{⊎-elim}
 use mathlib.Core.Path.{_≡_, refl, sym, ap, _∙_}
 use Prim.Native.Nat.{ℕ, zero, suc, _+_, _/_, _%_, _≤_, _<_}
-use native.Mathlib.Nat.{add-zero, zero-add, zero-mod}
+use native.Mathlib.Nat.{zero-add, zero-mod}
 use native.Mathlib.Omega.{arith}
-use lib.Dec.{eqb, leb, ltb}
+use lib.Dec.{eqb, leb}
 use lib.ListN.{length, getD}
 use borrow.Author.Tests.{eqb-true, eqb-false, leb-true, ltb-false, lt-ltb, not-false}
 use Rattle.octets.specs.Answers.{answer}
@@ -35,7 +35,8 @@ isCbcs Cbcs = true
 some-first : (crypt skip : ℕ) → aPattern crypt skip ≡ true → inCryptRun crypt skip 0 ≡ true
 unfolding inCryptRun
 some-first crypt skip h =
-    let l : 1 ≤ crypt = leb-true 1 crypt (&&-left (leb 1 crypt) (leb crypt 15) (&&-left (leb 1 crypt && leb crypt 15) (leb skip 15) h)) in
+    let l : 1 ≤ crypt =
+    leb-true 1 crypt (&&-left (leb 1 crypt) (leb crypt 15) (&&-left (leb 1 crypt && leb crypt 15) (leb skip 15) h)) in
     let z : 0 / 16 % (crypt + skip) ≡ 0 = zero-mod (crypt + skip) in
     rw z (lt-ltb 0 crypt l)
 
@@ -52,7 +53,8 @@ module _ (ivSize crypt skip : ℕ) where
       (known-cases code k)
 
   -- and in cbcs its IV is the constant one
-  pub cbcs-constant : (code : List ℕ) → known code ≡ true → allowedProtected code ivSize crypt skip ≡ true → schemeOf code ≡ Cbcs → ivSize ≡ 0
+  pub cbcs-constant : (code : List ℕ) → known code ≡ true → allowedProtected code ivSize crypt skip ≡ true → schemeOf code ≡ Cbcs
+      → ivSize ≡ 0
   unfolding schemeOf same allowedProtected
   cbcs-constant code k h s =
       ⊎-elim (λ e. absurd (other Cenc refl (rw e at s)))
@@ -97,14 +99,19 @@ unfolding entries
 entries-snoc [] ps k h l = absurd (omega arith)
 entries-snoc (c ∷ cs) [] k h l = absurd (omega arith)
 entries-snoc (c ∷ cs) (p ∷ ps) zero h l = refl
-entries-snoc (c ∷ cs) (p ∷ ps) (suc k) h l = ap (λ (es : List Entry). entry c p ∷ es) (entries-snoc cs ps k (omega arith) (omega arith))
+entries-snoc (c ∷ cs) (p ∷ ps) (suc k) h l =
+    ap (λ (es : List Entry). entry c p ∷ es) (entries-snoc cs ps k (omega arith) (omega arith))
 
 total-sum : (m : SubsampleMap) (k : ℕ) → k ≤ length (m .clear) → k ≤ length (m .protected)
     → total (entries (m .clear) (m .protected) k) ≡ sum (entryLength m) k
 unfolding entries total sum
 total-sum m zero h l = refl
 total-sum m (suc k) h l =
-    rw (entries-snoc (m .clear) (m .protected) k (omega arith) (omega arith), total-append, total-sum m k (omega arith) (omega arith))
+    rw (
+      entries-snoc (m .clear) (m .protected) k (omega arith) (omega arith),
+      total-append,
+      total-sum m k (omega arith) (omega arith),
+    )
     (omega arith)
 
 -- the entries of an accepted map call for as many bytes as the sample has

@@ -2,7 +2,7 @@
 use mathlib.Core.Bool.{Bool, true, false}
 use mathlib.Core.List.{List, [], _∷_}
 use mathlib.Core.Path.{_≡_, sym, _∙_}
-use Prim.Native.Nat.{ℕ, _+_, _*_, _/_, _%_, _≤_, _<_}
+use Prim.Native.Nat.{ℕ, _*_, _/_, _%_, _≤_, _<_}
 use native.Mathlib.Omega.{arith}
 use lib.ListN.{length, getD}
 use Rattle.octets.proofs.Bytes.{getD-listOf}
@@ -52,7 +52,8 @@ module _ (s : Scheme) (crypt skip : ℕ) (es : List Entry) where
       pub no-block-twice : counterAt iv i ≡ counterAt iv j → i ≡ j
       no-block-twice = distinct iv w i j (omega (arith, blocks-fit)) (omega (arith, blocks-fit))
 
-      pub no-block-listed-twice : getD (counterBlocks s crypt skip es iv) i [] ≡ getD (counterBlocks s crypt skip es iv) j [] → i ≡ j
+      pub no-block-listed-twice : getD (counterBlocks s crypt skip es iv) i [] ≡ getD (counterBlocks s crypt skip es iv) j []
+          → i ≡ j
       unfolding counterBlocks
       no-block-listed-twice e =
           no-block-twice

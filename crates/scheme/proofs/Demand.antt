@@ -1,15 +1,14 @@
 -- Demand 3: what is released from a sample's first pieces, however it is cut.
-use mathlib.Core.Path.{_≡_, refl, sym, ap, _∙_}
-use mathlib.Core.Bool.{Bool, true, false, cond}
-use mathlib.Core.List.{List, [], _∷_, _++_, flatten}
-use Prim.Native.Nat.{ℕ, zero, suc, _+_, _-_, _*_, _/_, _%_, _≤_, _<_}
+use mathlib.Core.Path.{_≡_, refl, _∙_}
+use mathlib.Core.Bool.{true}
+use mathlib.Core.List.{List, _++_, flatten}
+use Prim.Native.Nat.{ℕ, _-_}
 use native.Mathlib.Omega.{arith}
-use lib.ListN.{length, getD, take, drop, length-append}
+use lib.ListN.{length, take, length-append}
 use lib.Seq.{take-append-seam}
-use lib.Dec.{ltb}
 use Rattle.scheme.specs.declared.Scheme.{Scheme}
 use Rattle.scheme.specs.declared.Scheme.the-variants.{Cenc, Cbc1, Cens, Cbcs}
-use Rattle.scheme.specs.Layout.{Entry, total, mask, restartMask, isCiphered, inWholeBlock, inCryptRun}
+use Rattle.scheme.specs.Layout.{Entry, total, mask, restartMask, isCiphered}
 use Rattle.modes.specs.declared.Direction.{Direction}
 use Rattle.modes.specs.Modes.{Cipher}
 use Rattle.scheme.specs.WholeSample.{whole}
@@ -18,7 +17,7 @@ use Rattle.scheme.specs.Machine.{modeOf, feedSample}
 use Rattle.octets.specs.Bytes.{Bytes}
 use Rattle.scheme.proofs.Pieces.{Sized, heldAfter, feedAll, pieces-released}
 use Rattle.scheme.proofs.Agreement.{start, released}
-use Rattle.scheme.specs.Held.{place, inBlock, heldAt}
+use Rattle.scheme.specs.Held.{heldAt}
 use Rattle.scheme.proofs.Positions.{rank-block}
 
 module _ (crypt skip : ℕ) (es : List Entry) where
@@ -31,10 +30,13 @@ module _ (crypt skip : ℕ) (es : List Entry) where
 
 module _ (E D : Cipher) (sE : Sized E) (sD : Sized D) (d : Direction) (iv : List ℕ) (bytes : Bytes 16 iv)
     (crypt skip : ℕ) (es : List Entry) where
-  pub pieces : (s : Scheme) → isCiphered s crypt skip 16 0 ≡ true → (ps : List (List ℕ)) (rest : List ℕ) → length (flatten ps ++ rest) ≡ total es
+  pub pieces : (s : Scheme) → isCiphered s crypt skip 16 0 ≡ true → (ps : List (List ℕ)) (rest : List ℕ)
+      → length (flatten ps ++ rest) ≡ total es
       → feedAll E D d (modeOf s) iv (mask s crypt skip es) (restartMask s es) (start iv) ps .released
-      ≡ take (length (flatten ps) - heldAt crypt skip es s (length (flatten ps))) (whole E D iv crypt skip es d s (flatten ps ++ rest))
+      ≡ take (length (flatten ps) - heldAt crypt skip es s (length (flatten ps)))
+      (whole E D iv crypt skip es d s (flatten ps ++ rest))
   unfolding feedSample
   pieces s a ps rest l = pieces-released E D d (modeOf s) iv (mask s crypt skip es) (restartMask s es) (start iv) ps
       ∙ (rw (take-append-seam (flatten ps) rest, heldAt-is crypt skip es s (length (flatten ps))) at
-      (released E D sE sD d iv bytes crypt skip es s a (flatten ps ++ rest) l (length (flatten ps)) (simp length-append (omega arith))))
+      (released E D sE sD d iv bytes crypt skip es s a (flatten ps ++ rest) l (length (flatten ps))
+      (simp length-append (omega arith))))

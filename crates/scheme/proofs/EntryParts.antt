@@ -1,13 +1,12 @@
 -- A part of an entry: clear bytes stay, and the rest lies in the range.
 use mathlib.Core.Path.{_≡_, refl, sym, ap, _∙_}
 use mathlib.Core.Bool.{Bool, true, false}
-use mathlib.Core.List.{List, [], _∷_, _++_, append-assoc, append-nil}
-use Prim.Native.Nat.{ℕ, zero, suc, _+_, _-_, _*_, _/_, _%_, _≤_, _<_, min}
-use native.Mathlib.Nat.{add-zero, zero-add}
+use mathlib.Core.List.{List, [], _++_, append-nil}
+use Prim.Native.Nat.{ℕ, _+_, _-_, _≤_, _<_, min}
 use native.Mathlib.Omega.{arith}
-use lib.Dec.{leb, ltb, eqb}
-use lib.ListN.{length, getD, take, drop, replicate, length-append, length-drop, length-take, length-replicate, getD-replicate, List·getD-append, drop-of-length-le, take-append-drop}
-use lib.Seq.{ext-getD, getD-take, getD-drop, drop-drop, take-add, length-take-le, drop-append-add, take-length, take-all}
+use lib.Dec.{ltb}
+use lib.ListN.{length, take, drop, replicate, length-append, length-drop, length-replicate, getD-replicate, List·getD-append, drop-of-length-le, take-append-drop}
+use lib.Seq.{ext-getD, getD-take, getD-drop, drop-drop, take-add, length-take-le, drop-append-add, take-all}
 use borrow.Author.Tests.{ltb-true, ltb-false}
 use borrow.Rule.Slice.PartMut.{putMid}
 use Rattle.modes.specs.declared.Direction.{Direction}
@@ -15,10 +14,9 @@ use Rattle.scheme.specs.declared.Scheme.{Scheme}
 use Rattle.scheme.specs.Layout.{isCiphered, restarts, rangeMarks}
 use Rattle.modes.specs.Modes.{Cipher}
 use Rattle.scheme.proofs.Agreement.{length-range}
-use Rattle.scheme.specs.Layout.{count}
-use Rattle.scheme.specs.Machine.{Mode, Counter, Chain, modeOf}
+use Rattle.scheme.specs.Machine.{modeOf}
 use Rattle.scheme.proofs.Passes.{Passes, passes-join, passes-clear}
-use Rattle.scheme.proofs.Walk.{Free, Pattern, RangeAsks, RangeSays, entryMarks, EntryAsks, EntrySays}
+use Rattle.scheme.proofs.Walk.{RangeAsks, RangeSays, entryMarks, EntryAsks, EntrySays}
 
 module _ (f : ℕ → ℕ → Bool) (a n x m : ℕ) (within : x + m ≤ a + n) where
   abbrev A : List Bool
@@ -34,7 +32,8 @@ module _ (f : ℕ → ℕ → Bool) (a n x m : ℕ) (within : x + m ≤ a + n) w
   size-all = simp (length-append, length-replicate, length-range)
 
   size-stay : length (take stay (drop x (A ++ R))) ≡ stay
-  size-stay = length-take-le stay (drop x (A ++ R)) (simp (length-drop, length-append, length-replicate, length-range) (omega arith))
+  size-stay =
+      length-take-le stay (drop x (A ++ R)) (simp (length-drop, length-append, length-replicate, length-range) (omega arith))
 
   clear-part : take stay (drop x (A ++ R)) ≡ replicate stay false
   clear-part =
@@ -42,7 +41,13 @@ module _ (f : ℕ → ℕ → Bool) (a n x m : ℕ) (within : x + m ≤ a + n) w
       (λ i l.
       let k : i < stay = omega (arith, size-stay) in
       let j : x + i < a = omega arith in
-      rw (getD-take stay (drop x (A ++ R)) i false k, getD-drop x (A ++ R) i false, List·getD-append A R false (x + i) (rw length-replicate j), getD-replicate a (x + i) false false j, getD-replicate stay i false false k))
+      rw (
+        getD-take stay (drop x (A ++ R)) i false k,
+        getD-drop x (A ++ R) i false,
+        List·getD-append A R false (x + i) (rw length-replicate j),
+        getD-replicate a (x + i) false false j,
+        getD-replicate stay i false false k,
+      ))
 
   range-rest : take (m - stay) (drop (x + stay) (A ++ R)) ≡ take (m - stay) (drop (x - a) R)
   range-rest = go (ltb m (a - x)) refl
@@ -57,19 +62,30 @@ module _ (f : ℕ → ℕ → Bool) (a n x m : ℕ) (within : x + m ≤ a + n) w
   unfolding entryMarks
   entry-split =
       let e : m ≡ stay + (m - stay) = omega arith in
-      ap (λ (k : ℕ). take k (drop x (A ++ R))) e ∙ rw (take-add stay (m - stay) (drop x (A ++ R)), drop-drop stay x (A ++ R), clear-part, range-rest)
+      ap (λ (k : ℕ). take k (drop x (A ++ R))) e
+      ∙ rw (take-add stay (m - stay) (drop x (A ++ R)), drop-drop stay x (A ++ R), clear-part, range-rest)
 
 module _ {s : Scheme} {crypt skip a n x m u : ℕ} (q : EntryAsks s crypt skip a n x m u) where
   pub entry-asks : RangeAsks s crypt skip n (x - a) (m - min (a - x) m) u
   entry-asks =
       let e : x - a + (m - min (a - x) m) ≡ x + m - a = omega arith in
-      record { pattern = q .pattern; small = q .small; within = omega (arith, q .within); used = q .used; unused = q .unused; from = q .from; to = rw e (q .to) }
+      record {
+        pattern = q .pattern;
+        small = q .small;
+        within = omega (arith, q .within);
+        used = q .used;
+        unused = q .unused;
+        from = q .from;
+        to = rw e (q .to);
+      }
 
-module _ (E D : Cipher) (d : Direction) (s : Scheme) (crypt skip : ℕ) (iv : List ℕ) (a n x u : ℕ) (c xs : List ℕ) (q : EntryAsks s crypt skip a n x (length xs) u) where
+module _ (E D : Cipher) (d : Direction) (s : Scheme) (crypt skip : ℕ) (iv : List ℕ) (a n x u : ℕ) (c xs : List ℕ)
+    (q : EntryAsks s crypt skip a n x (length xs) u) where
   abbrev st : ℕ
   st = min (a - x) (length xs)
 
-  pub entry-says : (u′ : ℕ) (c′ z : List ℕ) → RangeSays E D d s crypt skip iv n (x - a) u c (take (length xs - st) (drop st xs)) u′ c′ z
+  pub entry-says : (u′ : ℕ) (c′ z : List ℕ)
+      → RangeSays E D d s crypt skip iv n (x - a) u c (take (length xs - st) (drop st xs)) u′ c′ z
       → EntrySays E D d s crypt skip iv a n x u c xs u′ c′ (putMid st (length xs - st) xs z)
   entry-says u′ c′ z r =
       let size : length (drop st xs) ≡ length xs - st = length-drop st xs in
@@ -77,10 +93,17 @@ module _ (E D : Cipher) (d : Direction) (s : Scheme) (crypt skip : ℕ) (iv : Li
       let rest : drop (length xs - st) (drop st xs) ≡ [] = drop-of-length-le (drop st xs) {i = length xs - st} (omega arith) in
       let front : length (take st xs) ≡ st = length-take-le st xs (omega arith) in
       let first : Passes E D d (modeOf s) iv (replicate st false) (replicate st false) u c (take st xs) u c (take st xs) =
-      rw front at (passes-clear E D d (modeOf s) iv (replicate st false) u c (take st xs) (q .used) (length-replicate st false ∙ sym front)) in
+      rw front at (passes-clear E D d (modeOf s) iv (replicate st false) u c (take st xs) (q .used)
+      (length-replicate st false ∙ sym front)) in
       let t = rw (all, size) at (r .passes) in
       record {
-        passes = rw (entry-split (isCiphered s crypt skip) a n x (length xs) (q .within), entry-split (restarts s) a n x (length xs) (q .within), rest, append-nil)
+        passes =
+            rw (
+              entry-split (isCiphered s crypt skip) a n x (length xs) (q .within),
+              entry-split (restarts s) a n x (length xs) (q .within),
+              rest,
+              append-nil,
+            )
             (rw (take-append-drop st xs) at (passes-join first t));
         used = let h = r .passes .rank in omega arith;
         unused = r .unused;
@@ -89,8 +112,10 @@ module _ (E D : Cipher) (d : Direction) (s : Scheme) (crypt skip : ℕ) (iv : Li
   -- the same at numbers that the code worked out
   module _ (t y : ℕ) (et : t ≡ min (a - x) (length xs)) (ey : y ≡ x - a) where
     pub entry-asked : RangeAsks s crypt skip n y (length (take (length xs - t) (drop t xs))) u
-    entry-asked = rw (et, ey, take-all (length xs - st) (drop st xs) (simp length-drop (omega arith)), length-drop st xs) (entry-asks q)
+    entry-asked =
+        rw (et, ey, take-all (length xs - st) (drop st xs) (simp length-drop (omega arith)), length-drop st xs) (entry-asks q)
 
-    pub entry-turned : (u′ : ℕ) (c′ z : List ℕ) → RangeSays E D d s crypt skip iv n y u c (take (length xs - t) (drop t xs)) u′ c′ z
+    pub entry-turned : (u′ : ℕ) (c′ z : List ℕ)
+        → RangeSays E D d s crypt skip iv n y u c (take (length xs - t) (drop t xs)) u′ c′ z
         → EntrySays E D d s crypt skip iv a n x u c xs u′ c′ (putMid t (length xs - t) xs z)
     entry-turned = rw (et, ey) entry-says

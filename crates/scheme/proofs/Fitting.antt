@@ -1,7 +1,7 @@
 -- When a part of a sample fits, and what the transform of a part then is.
 use mathlib.Core.Bool.{Bool, true, false, _&&_}
 use mathlib.Core.List.{List, []}
-use mathlib.Core.Path.{_≡_, refl, sym, ap, _∙_}
+use mathlib.Core.Path.{_≡_, refl, sym, _∙_}
 use Prim.Native.Nat.{ℕ, _+_, _-_, _%_, _≤_}
 use native.Mathlib.Omega.{arith}
 use lib.Dec.{eqb, leb}
@@ -14,8 +14,7 @@ use Rattle.track.specs.declared.Parameters.{Parameters}
 use Rattle.subsample.specs.declared.SubsampleMap.{SubsampleMap}
 use Rattle.subsample.specs.Auxiliary.{longest}
 use Rattle.scheme.specs.Layout.{schemeOf, isCiphered, total, mask, count}
-use Rattle.scheme.specs.Machine.{Stepped, free, feedSample}
-use Rattle.scheme.specs.Held.{heldAt}
+use Rattle.scheme.specs.Machine.{free, feedSample}
 use Rattle.scheme.specs.Part.{protectedEntries, entriesOf, heldUnder, fits, feedUnder, transformed}
 use Rattle.scheme.proofs.Walk.{Pattern, SampleAsks}
 use Rattle.scheme.proofs.SampleParts.{whole-asks}
@@ -62,7 +61,8 @@ module _ (p : Parameters) (m : SubsampleMap) (n : ℕ) (one : p .protected ≡ 1
     all = sym (fits-is x k) ∙ f
 
     pub fits-length : n ≤ longest
-    fits-length = leb-true n longest (&&-left a b (&&-left (a && b) c (&&-left (a && b && c) d (&&-left (a && b && c && d) e all))))
+    fits-length =
+        leb-true n longest (&&-left a b (&&-left (a && b) c (&&-left (a && b && c) d (&&-left (a && b && c && d) e all))))
 
     pub fits-asks : SampleAsks (schemeOf (p .code)) (p .crypt) (p .skip) (protectedEntries m n) x k
         (count (take x (mask (schemeOf (p .code)) (p .crypt) (p .skip) (protectedEntries m n))) % 16)
@@ -87,7 +87,8 @@ module _ (E D : Cipher) (d : Direction) (p : Parameters) (m : SubsampleMap) (n x
   unfolding transformed feedUnder
   transformed-fits one f = rw (f, protected-entries p m n one)
 
-  pub transformed-not : fits p m n x (length xs) ≡ false → transformed E D d p m n x c xs ≡ record { state = free x c; released = xs }
+  pub transformed-not : fits p m n x (length xs) ≡ false
+      → transformed E D d p m n x c xs ≡ record { state = free x c; released = xs }
   unfolding transformed
   transformed-not f = rw f
 

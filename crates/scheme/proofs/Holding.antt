@@ -1,13 +1,13 @@
 -- Held bytes: a state that holds bytes is the one that comes of feeding them from where nothing is held.
 use mathlib.Core.Path.{_≡_, refl, sym, ap, _∙_}
-use mathlib.Core.Bool.{Bool, true, false, cond}
+use mathlib.Core.Bool.{Bool, true, false}
 use mathlib.Core.List.{List, [], _∷_, _++_, append-assoc, append-nil}
-use Prim.Native.Nat.{ℕ, zero, suc, _+_, _-_, _*_, _/_, _%_, _≤_, _<_}
-use native.Mathlib.Nat.{zero-add, add-zero, suc-inj}
+use Prim.Native.Nat.{ℕ, zero, suc, _+_, _-_, _/_, _%_, _≤_, _<_}
+use native.Mathlib.Nat.{add-zero}
 use native.Mathlib.Omega.{arith}
-use lib.Dec.{leb, ltb, eqb}
-use lib.ListN.{length, getD, take, drop, replicate, length-append, length-replicate, take-append-drop, length-drop, getD-replicate, List·getD-eq-default, drop-of-length-le}
-use lib.Seq.{drop-drop, getD-drop, getD-take, ext-getD, length-take-le, drop-cons, take-all}
+use lib.Dec.{ltb}
+use lib.ListN.{length, getD, take, drop, replicate, length-append, take-append-drop, length-drop, List·getD-eq-default, drop-of-length-le}
+use lib.Seq.{length-take-le, drop-cons, take-all}
 use borrow.Author.Tests.{ne-eqb, lt-ltb, le-ltb, ltb-true, ltb-false}
 use Rattle.modes.specs.declared.Direction.{Direction}
 use Rattle.scheme.specs.declared.Scheme.{Scheme}
@@ -22,19 +22,26 @@ use Rattle.scheme.proofs.Positions.{place-law, marks-at}
 use Rattle.scheme.specs.Held.{heldAt}
 use Rattle.scheme.proofs.Demand.{heldAt-is}
 use Rattle.scheme.specs.Layout.{count}
-use Rattle.scheme.specs.Machine.{State, Stepped, Mode, Counter, Chain, modeOf, chainAt, plain, counted, chained, ciphered, step, feed, feedSample}
+use Rattle.scheme.specs.Machine.{State, Stepped, Mode, Counter, Chain, modeOf, chained, ciphered, step, feed, feedSample}
 use Rattle.scheme.proofs.Passes.{left, feed-joined}
 use Rattle.scheme.proofs.Walk.{Pattern, SampleAsks}
 
 -- bytes of a block that isn't complete are held
-hold-feed : (E D : Cipher) (d : Direction) (iv : List ℕ) (M F : List Bool) (p : ℕ) (c h zs : List ℕ) (ns : List Bool) → length h + length zs ≤ 15 → drop p M ≡ replicate (length zs) true ++ ns
-    → feed E D d Chain iv M F (record { position = p; block = c; held = h }) zs ≡ record { state = record { position = p + length zs; block = c; held = h ++ zs }; released = [] }
+hold-feed : (E D : Cipher) (d : Direction) (iv : List ℕ) (M F : List Bool) (p : ℕ) (c h zs : List ℕ) (ns : List Bool)
+    → length h + length zs ≤ 15 → drop p M ≡ replicate (length zs) true ++ ns
+    → feed E D d Chain iv M F (record { position = p; block = c; held = h }) zs
+    ≡ record { state = record { position = p + length zs; block = c; held = h ++ zs }; released = [] }
 unfolding feed step ciphered chained
 hold-feed E D d iv M F p c h [] ns l e = rw (add-zero, append-nil)
 hold-feed E D d iv M F p c h (z ∷ zs) ns l e =
     let t : drop p M ≡ true ∷ (replicate (length zs) true ++ ns) = e in
     let s : p + suc (length zs) ≡ suc p + length zs = omega arith in
-    rw (drop-head M p true _ t, ne-eqb (length h) 15 (omega arith), s, hold-feed E D d iv M F (suc p) c (h ++ (z ∷ [])) zs ns (simp length-append (omega arith)) (drop-tail M p true _ t))
+    rw (
+      drop-head M p true _ t,
+      ne-eqb (length h) 15 (omega arith),
+      s,
+      hold-feed E D d iv M F (suc p) c (h ++ (z ∷ [])) zs ns (simp length-append (omega arith)) (drop-tail M p true _ t),
+    )
     (rw append-assoc)
 
 -- marks that hold from q on, t of them
@@ -43,14 +50,21 @@ marked-at l q e = go (ltb q (length l)) refl
   where
     go : (b : Bool) → ltb q (length l) ≡ b → q < length l
     go true h = ltb-true q (length l) h
-    go false h = absurd (let f : false ≡ true = sym (List·getD-eq-default l false (ltb-false q (length l) h)) ∙ e in let z : _≡_ {A = ℕ} 0 1 = cc in omega arith)
+    go false h =
+        absurd
+        (let f : false ≡ true = sym (List·getD-eq-default l false (ltb-false q (length l) h)) ∙ e in
+        let z : _≡_ {A = ℕ} 0 1 = cc in
+        omega arith)
 
-run-true : (l : List Bool) (t q : ℕ) → ((i : ℕ) → i < t → getD l (q + i) false ≡ true) → drop q l ≡ replicate t true ++ drop (q + t) l
+run-true : (l : List Bool) (t q : ℕ) → ((i : ℕ) → i < t → getD l (q + i) false ≡ true)
+    → drop q l ≡ replicate t true ++ drop (q + t) l
 run-true l zero q h = rw add-zero
 run-true l (suc t) q h =
     let e : getD l q false ≡ true = rw add-zero at (h 0 (omega arith)) in
     let s : q + suc t ≡ suc q + t = omega arith in
-    rw (s, drop-cons l q false (marked-at l q e), e) (ap (λ (m : List Bool). true ∷ m) (run-true l t (suc q) (λ i k. (let j : suc q + i ≡ q + suc i = omega arith in rw j (h (suc i) (omega arith))))))
+    rw (s, drop-cons l q false (marked-at l q e), e)
+    (ap (λ (m : List Bool). true ∷ m)
+    (run-true l t (suc q) (λ i k. (let j : suc q + i ≡ q + suc i = omega arith in rw j (h (suc i) (omega arith))))))
 
 -- back in the same range
 module _ (e : Entry) (es : List Entry) (y : ℕ) (u : e .clear ≤ y) where
@@ -66,15 +80,20 @@ pub record Backed (es : List Entry) (x n o j : ℕ) : Type 0 where
   pub there : place es (x - j) ≡ Inside n (o - j)
   pub low : o ≤ x
 
-back-in : (e : Entry) (es : List Entry) (x n o j : ℕ) → j ≤ o → e .clear ≤ x → x - e .clear < e .protected → e .protected ≡ n → x - e .clear ≡ o → Backed (e ∷ es) x n o j
+back-in : (e : Entry) (es : List Entry) (x n o j : ℕ) → j ≤ o → e .clear ≤ x → x - e .clear < e .protected → e .protected ≡ n
+    → x - e .clear ≡ o → Backed (e ∷ es) x n o j
 back-in e es x n o j l u v en eo =
     let q : x - j - e .clear ≡ o - j = omega arith in
     record { there = place-in e es (x - j) (omega arith) (omega arith) ∙ rw (en, q); low = omega arith }
 
-back-behind : (e : Entry) (es : List Entry) (x n o j : ℕ) → j ≤ o → e .clear ≤ x → e .protected ≤ x - e .clear → Backed es (x - e .clear - e .protected) n o j → Backed (e ∷ es) x n o j
+back-behind : (e : Entry) (es : List Entry) (x n o j : ℕ) → j ≤ o → e .clear ≤ x → e .protected ≤ x - e .clear
+    → Backed es (x - e .clear - e .protected) n o j → Backed (e ∷ es) x n o j
 back-behind e es x n o j l u v r =
     let q : x - j - e .clear - e .protected ≡ x - e .clear - e .protected - j = omega arith in
-    record { there = place-behind e es (x - j) (omega (arith, r .low)) (omega (arith, r .low)) ∙ rw q (r .there); low = omega (arith, r .low) }
+    record {
+      there = place-behind e es (x - j) (omega (arith, r .low)) (omega (arith, r .low)) ∙ rw q (r .there);
+      low = omega (arith, r .low);
+    }
 
 range-of : {n o m p : ℕ} → Inside m p ≡ Inside n o → m ≡ n
 range-of h = cc
@@ -98,7 +117,8 @@ back (e ∷ es) x n o j l =
     (λ u v h. back-behind e es x n o j l u v (back es (x - e .clear - e .protected) n o j l h))
 
 -- in a chain scheme all bytes of a block go with the block
-same-block : (s : Scheme) (crypt skip n o y : ℕ) → modeOf s ≡ Chain → y / 16 ≡ o / 16 → isCiphered s crypt skip n y ≡ isCiphered s crypt skip n o
+same-block : (s : Scheme) (crypt skip n o y : ℕ) → modeOf s ≡ Chain → y / 16 ≡ o / 16
+    → isCiphered s crypt skip n y ≡ isCiphered s crypt skip n o
 unfolding modeOf isCiphered inWholeBlock inCryptRun
 same-block Cenc crypt skip n o y k e = absurd (let z : _≡_ {A = ℕ} 0 1 = cc in omega arith)
 same-block Cbc1 crypt skip n o y k e = rw e
@@ -114,9 +134,11 @@ pub record Back (s : Scheme) (crypt skip : ℕ) (es : List Entry) (x t : ℕ) : 
 
 module _ (s : Scheme) (crypt skip : ℕ) (k : modeOf s ≡ Chain) (es : List Entry) (x : ℕ) where
   nothing : inBlock crypt skip s (place es x) ≡ 0 → Back s crypt skip es x (inBlock crypt skip s (place es x))
-  nothing e = let z : x - 0 ≡ x = omega arith in rw e (record { few = omega arith; low = omega arith; marked = rw z; start = rw z e })
+  nothing e =
+      let z : x - 0 ≡ x = omega arith in rw e (record { few = omega arith; low = omega arith; marked = rw z; start = rw z e })
 
-  inside : (n o : ℕ) → place es x ≡ Inside n o → (b : Bool) → isCiphered s crypt skip n o ≡ b → Back s crypt skip es x (inBlock crypt skip s (place es x))
+  inside : (n o : ℕ) → place es x ≡ Inside n o → (b : Bool) → isCiphered s crypt skip n o ≡ b
+      → Back s crypt skip es x (inBlock crypt skip s (place es x))
   unfolding inBlock inPlace mask
   inside n o e false f = nothing (rw (e, f))
   inside n o e true f =
@@ -133,8 +155,11 @@ module _ (s : Scheme) (crypt skip : ℕ) (k : modeOf s ≡ Chain) (es : List Ent
             (λ i l.
             let w : x - t + i ≡ x - (t - i) = omega (arith, r .low) in
             let y = back es x n o (t - i) (omega arith) e in
-            marks-at (isCiphered s crypt skip) es (x - t + i) ∙ rw (w, y .there) (same-block s crypt skip n o (o - (t - i)) k (omega arith) ∙ f)));
-        start = let g : (o - t) % 16 ≡ 0 = omega arith in rw (r .there, g) (cond-law (λ (y : ℕ). y ≡ 0) (isCiphered s crypt skip n (o - t)) (λ q. refl) (λ q. refl));
+            marks-at (isCiphered s crypt skip) es (x - t + i)
+            ∙ rw (w, y .there) (same-block s crypt skip n o (o - (t - i)) k (omega arith) ∙ f)));
+        start =
+            let g : (o - t) % 16 ≡ 0 = omega arith in
+            rw (r .there, g) (cond-law (λ (y : ℕ). y ≡ 0) (isCiphered s crypt skip n (o - t)) (λ q. refl) (λ q. refl));
       })
 
   at-place : (p : Place) → place es x ≡ p → Back s crypt skip es x (inBlock crypt skip s (place es x))
@@ -154,7 +179,8 @@ held-counter crypt skip Cbc1 es x e = absurd (let z : _≡_ {A = ℕ} 0 1 = cc i
 held-counter crypt skip Cens es x e = refl
 held-counter crypt skip Cbcs es x e = absurd (let z : _≡_ {A = ℕ} 0 1 = cc in omega arith)
 
-held-chain : (crypt skip : ℕ) (s : Scheme) (es : List Entry) (x : ℕ) → modeOf s ≡ Chain → heldAt crypt skip es s x ≡ inBlock crypt skip s (place es x)
+held-chain : (crypt skip : ℕ) (s : Scheme) (es : List Entry) (x : ℕ) → modeOf s ≡ Chain
+    → heldAt crypt skip es s x ≡ inBlock crypt skip s (place es x)
 unfolding heldAt modeOf
 held-chain crypt skip Cenc es x e = absurd (let z : _≡_ {A = ℕ} 0 1 = cc in omega arith)
 held-chain crypt skip Cbc1 es x e = refl
@@ -170,7 +196,8 @@ module _ (s : Scheme) (crypt skip : ℕ) (k : modeOf s ≡ Chain) (es : List Ent
   pub held-marks : Back s crypt skip es x (heldAt crypt skip es s x)
   held-marks = rw (held-chain crypt skip s es x k) (held-back s crypt skip k es x)
 
-module _ (E D : Cipher) (sE : Sized E) (sD : Sized D) (d : Direction) (s : Scheme) (crypt skip : ℕ) (iv : List ℕ) (es : List Entry) (p : ℕ) (c h zs : List ℕ)
+module _ (E D : Cipher) (sE : Sized E) (sD : Sized D) (d : Direction) (s : Scheme) (crypt skip : ℕ) (iv : List ℕ)
+    (es : List Entry) (p : ℕ) (c h zs : List ℕ)
     (n : length h ≡ heldAt crypt skip es s p) where
   abbrev H : ℕ → ℕ
   H x = heldAt crypt skip es s x
@@ -196,13 +223,17 @@ module _ (E D : Cipher) (sE : Sized E) (sD : Sized D) (d : Direction) (s : Schem
       let a : Added (modeOf s) M (length h + length zs) (feed E D d (modeOf s) iv M (restartMask s es) from zs) =
       feed-adds E D sE sD d iv M (restartMask s es) (modeOf s) from zs (n ∙ sym (heldAt-is crypt skip es s p)) in
       let e : H end ≡ length (feed E D d (modeOf s) iv M (restartMask s es) from zs .state .held) =
-      sym (heldAt-is crypt skip es s end) ∙ ap (λ (y : ℕ). heldAfter (modeOf s) (count (take y M))) (sym (feed-position E D d (modeOf s) iv M (restartMask s es) from zs)) ∙ sym (a .sound) in
+      sym (heldAt-is crypt skip es s end)
+      ∙ ap (λ (y : ℕ). heldAfter (modeOf s) (count (take y M)))
+      (sym (feed-position E D d (modeOf s) iv M (restartMask s es) from zs))
+      ∙ sym (a .sound) in
       simp length-append (omega (arith, a .sum))
 
   abbrev Done : List ℕ → List ℕ → Type 0
   Done c′ ys =
       feedSample E D d s crypt skip iv es (free (p - H p) c) (take due all) ≡ left (p - H p + length (take due all)) c′ ys
-      → feedSample E D d s crypt skip iv es from zs ≡ record { state = record { position = end; block = c′; held = drop due all }; released = ys }
+      → feedSample E D d s crypt skip iv es from zs
+      ≡ record { state = record { position = end; block = c′; held = drop due all }; released = ys }
 
   size-all : length all ≡ H p + length zs
   size-all = simp length-append (omega arith)
@@ -229,19 +260,26 @@ module _ (E D : Cipher) (sE : Sized E) (sD : Sized D) (d : Direction) (s : Schem
     joined : fedBy (free (p - H p) c) all ≡ fedBy from zs
     joined = feed-joined E D d Chain iv M (restartMask s es) (free (p - H p) c) h zs ∙ rw first
 
-    last : (c′ : List ℕ) → fedBy (free (p - H p + length (take due all)) c′) (drop due all) ≡ record { state = record { position = end; block = c′; held = drop due all }; released = [] }
+    last : (c′ : List ℕ)
+        → fedBy (free (p - H p + length (take due all)) c′) (drop due all)
+        ≡ record { state = record { position = end; block = c′; held = drop due all }; released = [] }
     last c′ =
         let b : Back s crypt skip es p (H p) = held-marks s crypt skip k es p in
         let e : Back s crypt skip es end (H end) = held-marks s crypt skip k es end in
         let q : p - H p + length (take due all) ≡ end - H end = rw size-due (omega (arith, b .low, size-all, held-few)) in
         let r : end - H end + length (drop due all) ≡ end = rw size-held (omega (arith, e .low)) in
-        rw q (rw r at (hold-feed E D d iv M (restartMask s es) (end - H end) c′ [] (drop due all) (drop end M) (rw size-held (omega (arith, e .few))) (rw size-held (e .marked))))
+        rw q
+        (rw r at (hold-feed E D d iv M (restartMask s es) (end - H end) c′ [] (drop due all) (drop end M)
+        (rw size-held (omega (arith, e .few))) (rw size-held (e .marked))))
 
     chain-says : (c′ ys : List ℕ) → fedBy (free (p - H p) c) (take due all) ≡ left (p - H p + length (take due all)) c′ ys
         → fedBy from zs ≡ record { state = record { position = end; block = c′; held = drop due all }; released = ys }
     chain-says c′ ys fed =
         sym joined ∙ ap (fedBy (free (p - H p) c)) (sym (take-append-drop due all))
-        ∙ feed-joined E D d Chain iv M (restartMask s es) (free (p - H p) c) (take due all) (drop due all) ∙ rw (fed, last c′) (ap (λ (l : List ℕ). record { state = record { position = end; block = c′; held = drop due all }; released = l }) (append-nil ys))
+        ∙ feed-joined E D d Chain iv M (restartMask s es) (free (p - H p) c) (take due all) (drop due all)
+        ∙ rw (fed, last c′)
+        (ap (λ (l : List ℕ). record { state = record { position = end; block = c′; held = drop due all }; released = l })
+        (append-nil ys))
 
   by-chain : modeOf s ≡ Chain → (c′ ys : List ℕ) → Done c′ ys
   unfolding feedSample
@@ -267,8 +305,11 @@ module _ (E D : Cipher) (sE : Sized E) (sD : Sized D) (d : Direction) (s : Schem
 
   -- where the part lies that the held bytes and the piece make: nothing is held where it begins and where it ends
   begins : (f : Mode) → modeOf s ≡ f → (x : ℕ) → (H x ≤ x) × (H (x - H x) ≡ 0)
-  begins Counter k x = let z : H x ≡ 0 = held-counter crypt skip s es x k in (omega arith, held-counter crypt skip s es (x - H x) k)
-  begins Chain k x = let b : Back s crypt skip es x (H x) = held-marks s crypt skip k es x in (b .low, held-chain crypt skip s es (x - H x) k ∙ b .start)
+  begins Counter k x =
+      let z : H x ≡ 0 = held-counter crypt skip s es x k in (omega arith, held-counter crypt skip s es (x - H x) k)
+  begins Chain k x =
+      let b : Back s crypt skip es x (H x) = held-marks s crypt skip k es x in
+      (b .low, held-chain crypt skip s es (x - H x) k ∙ b .start)
 
   pub piece-asks : Pattern s crypt skip → end ≤ total es → (u : ℕ) → count (take (p - H p) (mask s crypt skip es)) % 16 ≡ u
       → SampleAsks s crypt skip es (p - H p) (length (take due all)) u

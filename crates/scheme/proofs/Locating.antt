@@ -1,19 +1,18 @@
 -- Where a position lies, entry by entry.
 use mathlib.Core.Path.{_≡_, refl, sym, ap, _∙_}
-use mathlib.Core.Bool.{Bool, true, false, cond}
+use mathlib.Core.Bool.{Bool, true, false}
 use mathlib.Core.List.{List, [], _∷_, _++_}
-use Prim.Native.Nat.{ℕ, zero, suc, _+_, _-_, _*_, _/_, _%_, _^_, _≤_, _<_}
+use Prim.Native.Nat.{ℕ, _+_, _-_, _*_, _%_, _^_, _≤_, _<_}
 use native.Mathlib.Nat.{add-zero, zero-add}
 use native.Mathlib.Omega.{arith}
-use lib.Dec.{ltb}
-use lib.ListN.{length, getD, take, drop, replicate, length-replicate}
+use lib.ListN.{take, drop, replicate, length-replicate}
 use lib.Seq.{take-append-le, take-nil, take-all}
 use borrow.Author.Tests.{lt-ltb, le-ltb}
 use Rattle.scheme.specs.declared.Scheme.{Scheme}
 use Rattle.scheme.specs.declared.Scheme.the-variants.{Cenc, Cbc1, Cens, Cbcs}
 use Rattle.scheme.specs.Layout.{Entry, entry, isCiphered, rangeMarks, marks, mask}
 use Rattle.scheme.proofs.Agreement.{length-range}
-use Rattle.scheme.specs.Held.{Place, Clear, Inside, place, inPlace, inBlock}
+use Rattle.scheme.specs.Held.{Clear, Inside, place, inPlace, inBlock}
 use Rattle.scheme.proofs.Positions.{rank-block, count-run, count-none, count-after}
 use Rattle.scheme.specs.Layout.{count}
 use Rattle.scheme.proofs.Walk.{Located, isCenc, counts}
@@ -39,7 +38,8 @@ locate-start es x = record { at = refl; rank = λ crypt skip. sym (zero-add _); 
 cenc-range : (crypt skip n : ℕ) → rangeMarks (isCiphered Cenc crypt skip) n ≡ replicate n true
 unfolding isCiphered
 cenc-range crypt skip n =
-    sym (take-all n (rangeMarks (isCiphered Cenc crypt skip) n) (simp length-range (omega arith))) ∙ run-marks (isCiphered Cenc crypt skip) n 0 n (omega arith) true (λ x a b. refl)
+    sym (take-all n (rangeMarks (isCiphered Cenc crypt skip) n) (simp length-range (omega arith)))
+    ∙ run-marks (isCiphered Cenc crypt skip) n 0 n (omega arith) true (λ x a b. refl)
 
 module _ (p n y : ℕ) (es : List Entry) where
   abbrev here : List Entry
@@ -52,13 +52,24 @@ module _ (p n y : ℕ) (es : List Entry) where
 
     rank-clear : (crypt skip : ℕ) → Rank here crypt skip y ≡ 0
     unfolding mask marks
-    rank-clear crypt skip = rw (take-append-le y (replicate p false) (rangeMarks (isCiphered Cenc crypt skip) n ++ marks (isCiphered Cenc crypt skip) es) (simp length-replicate (omega arith))) (count-run false p y (omega arith))
+    rank-clear crypt skip =
+        rw (take-append-le y (replicate p false)
+        (rangeMarks (isCiphered Cenc crypt skip) n ++ marks (isCiphered Cenc crypt skip) es)
+        (simp length-replicate (omega arith)))
+        (count-run false p y (omega arith))
 
   module _ (u : p ≤ y) where
     rank-on : (crypt skip : ℕ) → Rank here crypt skip y ≡ count (take (y - p) (replicate n true ++ mask Cenc crypt skip es))
     unfolding mask marks
     rank-on crypt skip =
-        rw (count-after (replicate p false) (rangeMarks (isCiphered Cenc crypt skip) n ++ marks (isCiphered Cenc crypt skip) es) p y (length-replicate p false) u, count-none p, zero-add, cenc-range crypt skip n)
+        rw (
+          count-after (replicate p false)
+              (rangeMarks (isCiphered Cenc crypt skip) n ++ marks (isCiphered Cenc crypt skip) es) p y
+              (length-replicate p false) u,
+          count-none p,
+          zero-add,
+          cenc-range crypt skip n,
+        )
 
     module _ (v : y - p < n) where
       place-in : place here y ≡ Inside n (y - p)
@@ -66,7 +77,10 @@ module _ (p n y : ℕ) (es : List Entry) where
       place-in = rw (le-ltb y p u, lt-ltb (y - p) n v)
 
       rank-in : (crypt skip : ℕ) → Rank here crypt skip y ≡ y - p
-      rank-in crypt skip = rank-on crypt skip ∙ rw (take-append-le (y - p) (replicate n true) (mask Cenc crypt skip es) (simp length-replicate (omega arith))) (count-run true n (y - p) (omega arith))
+      rank-in crypt skip =
+          rank-on crypt skip
+          ∙ rw (take-append-le (y - p) (replicate n true) (mask Cenc crypt skip es) (simp length-replicate (omega arith)))
+          (count-run true n (y - p) (omega arith))
 
     module _ (v : n ≤ y - p) where
       place-past : place here y ≡ place es (y - p - n)
@@ -75,8 +89,10 @@ module _ (p n y : ℕ) (es : List Entry) where
 
       rank-past : (crypt skip : ℕ) → Rank here crypt skip y ≡ n + Rank es crypt skip (y - p - n)
       rank-past crypt skip =
-          let e : count (replicate n true) ≡ n = rw (take-all n (replicate n true) (simp length-replicate (omega arith))) at (count-run true n n (omega arith)) in
-          rank-on crypt skip ∙ count-after (replicate n true) (mask Cenc crypt skip es) n (y - p) (length-replicate n true) v ∙ rw e
+          let e : count (replicate n true) ≡ n =
+          rw (take-all n (replicate n true) (simp length-replicate (omega arith))) at (count-run true n n (omega arith)) in
+          rank-on crypt skip ∙ count-after (replicate n true) (mask Cenc crypt skip es) n (y - p) (length-replicate n true) v
+          ∙ rw e
 
 module _ {es : List Entry} {x k y before : ℕ} (s : Locating es x k y before) where
   pub locate-none : drop k es ≡ [] → Located es x false 0 0 before
@@ -85,10 +101,18 @@ module _ {es : List Entry} {x k y before : ℕ} (s : Locating es x k y before) w
 
   module _ (p n : ℕ) (e : drop k es ≡ (record { clear = p; protected = n }) ∷ drop (k + 1) es) where
     pub locate-clear : y < p → Located es x false 0 0 before
-    locate-clear u = record { at = s .at ∙ rw e (place-clear p n y (drop (k + 1) es) u); rank = λ crypt skip. s .rank crypt skip ∙ rw (e, rank-clear p n y (drop (k + 1) es) u crypt skip) (add-zero before) }
+    locate-clear u =
+        record {
+          at = s .at ∙ rw e (place-clear p n y (drop (k + 1) es) u);
+          rank = λ crypt skip. s .rank crypt skip ∙ rw (e, rank-clear p n y (drop (k + 1) es) u crypt skip) (add-zero before);
+        }
 
     pub locate-in : p ≤ y → y - p < n → Located es x true n (y - p) (before + (y - p))
-    locate-in u v = record { at = s .at ∙ rw e (place-in p n y (drop (k + 1) es) u v); rank = λ crypt skip. s .rank crypt skip ∙ rw (e, rank-in p n y (drop (k + 1) es) u v crypt skip) }
+    locate-in u v =
+        record {
+          at = s .at ∙ rw e (place-in p n y (drop (k + 1) es) u v);
+          rank = λ crypt skip. s .rank crypt skip ∙ rw (e, rank-in p n y (drop (k + 1) es) u v crypt skip);
+        }
 
     pub locate-next : p ≤ y → n ≤ y - p → n < 2 ^ 32 → Locating es x (k + 1) (y - p - n) (before + n)
     locate-next u v l =
@@ -132,7 +156,8 @@ no-cenc s e f = cross (sym (ap isCenc f) ∙ e)
 pub held-none : (crypt skip : ℕ) (es : List Entry) (s : Scheme) (x : ℕ) → counts s ≡ true → 0 ≡ heldAt crypt skip es s x
 held-none crypt skip es s x e = sym (held-counter crypt skip s es x (is-counter s e))
 
-pub held-some : (crypt skip : ℕ) (es : List Entry) (s : Scheme) (x : ℕ) → counts s ≡ false → count (take x (mask s crypt skip es)) % 16 ≡ heldAt crypt skip es s x
+pub held-some : (crypt skip : ℕ) (es : List Entry) (s : Scheme) (x : ℕ) → counts s ≡ false
+    → count (take x (mask s crypt skip es)) % 16 ≡ heldAt crypt skip es s x
 unfolding heldAfter
 held-some crypt skip es s x e = rw (is-chain s e) at (heldAt-is crypt skip es s x)
 

@@ -1,33 +1,32 @@
--- A part of a sample as the machine passes it, wherever it lies: it meets the marks ms and fs, and begins and ends with nothing held.
+-- A part of a sample as the machine passes it, wherever it lies: it meets the marks ms and fs, and begins and ends with nothing
+-- held.
 use mathlib.Core.Path.{_≡_, refl, sym, ap, _∙_}
 use mathlib.Core.Bool.{Bool, true, false, cond}
-use mathlib.Core.List.{List, [], _∷_, _++_, append-assoc, append-nil}
-use Prim.Native.Nat.{ℕ, zero, suc, _+_, _-_, _*_, _/_, _%_, _≤_, _<_}
-use native.Mathlib.Nat.{zero-add, add-zero, suc-add}
+use mathlib.Core.List.{List, [], _∷_, _++_, append-assoc}
+use Prim.Native.Nat.{ℕ, zero, suc, _+_, _*_, _/_, _%_, _≤_, _<_}
+use native.Mathlib.Nat.{add-zero}
 use native.Mathlib.Omega.{arith}
-use lib.Dec.{eqb}
 use lib.ListN.{length, getD, take, drop, replicate, length-append, length-replicate, take-append-drop, length-drop, replicate-append-replicate}
-use lib.Seq.{drop-drop, drop-at, take-add, take-at, length-take-le}
-use Rattle.octets.specs.Xor.{_⊕_}
-use borrow.Author.Tests.{eqb-true, eqb-false}
+use lib.Seq.{take-add, take-at, length-take-le}
 use Rattle.modes.specs.declared.Direction.{Direction}
 use Rattle.modes.specs.Modes.{Cipher, counterAt, streamByte, ctr, blockOut, blockChain, cbc, chainEnd}
 use Rattle.octets.specs.Bytes.{Bytes}
-use Rattle.modes.proofs.Counter.{steps, no-step}
+use Rattle.modes.proofs.Counter.{no-step}
 use Rattle.modes.proofs.Chained.{cbc-step, end-step, cbc-rest, end-rest}
-use Rattle.scheme.proofs.Pieces.{Sized, count-marked, count-unmarked, feed-append, feed-append-state}
+use Rattle.scheme.proofs.Pieces.{Sized, count-marked}
 use Rattle.scheme.proofs.Agreement.{next-block, drop-head, drop-tail, drop-part, block-feed}
 use Rattle.scheme.specs.Machine.{free}
 use Rattle.scheme.proofs.Positions.{count-append}
 use Rattle.scheme.specs.Layout.{count}
-use Rattle.scheme.specs.Machine.{State, Stepped, Mode, Counter, Chain, chainAt, plain, counted, chained, ciphered, step, feed}
+use Rattle.scheme.specs.Machine.{State, Stepped, Mode, Counter, Chain, plain, counted, ciphered, step, feed}
 
 -- the state and the bytes that a part leaves
 abbrev pub left : ℕ → List ℕ → List ℕ → Stepped
 left p c ys = record { state = free p c; released = ys }
 
 -- u of the counter's bytes are used before the part, and u′ after it; c and c′ are the counter or chain block before and after it
-pub record Passes (E D : Cipher) (d : Direction) (k : Mode) (iv : List ℕ) (ms fs : List Bool) (u : ℕ) (c xs : List ℕ) (u′ : ℕ) (c′ ys : List ℕ) : Type 0 where
+pub record Passes (E D : Cipher) (d : Direction) (k : Mode) (iv : List ℕ) (ms fs : List Bool) (u : ℕ) (c xs : List ℕ) (u′ : ℕ)
+    (c′ ys : List ℕ) : Type 0 where
   pub marked : length ms ≡ length xs
   pub anewed : length fs ≡ length xs
   pub rank : u′ ≡ (u + count ms) % 16
@@ -35,7 +34,8 @@ pub record Passes (E D : Cipher) (d : Direction) (k : Mode) (iv : List ℕ) (ms 
       → feed E D d k iv M F (free p c) xs ≡ left (p + length xs) c′ ys
 
 -- how many are marked before the part's end
-pub count-part : (M : List Bool) (p n : ℕ) (ms ns : List Bool) → length ms ≡ n → drop p M ≡ ms ++ ns → count (take (p + n) M) ≡ count (take p M) + count ms
+pub count-part : (M : List Bool) (p n : ℕ) (ms ns : List Bool) → length ms ≡ n → drop p M ≡ ms ++ ns
+    → count (take (p + n) M) ≡ count (take p M) + count ms
 count-part M p n ms ns l e = rw (take-add p n M, e, take-at ms ns n l) (count-append (take p M) ms)
 
 module _ (E D : Cipher) (d : Direction) (k : Mode) (iv : List ℕ) (M F : List Bool) where
@@ -54,7 +54,8 @@ module _ (E D : Cipher) (d : Direction) (k : Mode) (iv : List ℕ) where
   unfolding feed count
   passes-none u c l = record { marked = refl; anewed = refl; rank = omega arith; fed = λ M F p ns gs eM eF h. rw add-zero }
 
-module _ {E D : Cipher} {d : Direction} {k : Mode} {iv : List ℕ} {ms fs : List Bool} {u : ℕ} {c xs : List ℕ} {u′ : ℕ} {c′ ys : List ℕ} {ms′ fs′ : List Bool} {xs′ : List ℕ} {u″ : ℕ} {c″ ys′ : List ℕ}
+module _ {E D : Cipher} {d : Direction} {k : Mode} {iv : List ℕ} {ms fs : List Bool} {u : ℕ} {c xs : List ℕ} {u′ : ℕ}
+    {c′ ys : List ℕ} {ms′ fs′ : List Bool} {xs′ : List ℕ} {u″ : ℕ} {c″ ys′ : List ℕ}
     (a : Passes E D d k iv ms fs u c xs u′ c′ ys) (b : Passes E D d k iv ms′ fs′ u′ c′ xs′ u″ c″ ys′) where
   pub passes-join : Passes E D d k iv (ms ++ ms′) (fs ++ fs′) u c (xs ++ xs′) u″ c″ (ys ++ ys′)
   passes-join =
@@ -67,9 +68,11 @@ module _ {E D : Cipher} {d : Direction} {k : Mode} {iv : List ℕ} {ms fs : List
             let eM′ : drop p M ≡ ms ++ (ms′ ++ ns) = eM ∙ append-assoc ms ms′ ns in
             let eF′ : drop p F ≡ fs ++ (fs′ ++ gs) = eF ∙ append-assoc fs fs′ gs in
             let first : feed E D d k iv M F (free p c) xs ≡ left q c′ ys = a .fed M F p (ms′ ++ ns) (fs′ ++ gs) eM′ eF′ h in
-            let r : count (take q M) % 16 ≡ u′ = rw (count-part M p (length xs) ms (ms′ ++ ns) (a .marked) eM′) (sym (a .rank ∙ omega arith)) in
+            let r : count (take q M) % 16 ≡ u′ =
+            rw (count-part M p (length xs) ms (ms′ ++ ns) (a .marked) eM′) (sym (a .rank ∙ omega arith)) in
             let second : feed E D d k iv M F (free q c′) xs′ ≡ left (q + length xs′) c″ ys′ =
-            b .fed M F q ns gs (drop-part M p (length xs) ms (ms′ ++ ns) (a .marked) eM′) (drop-part F p (length xs) fs (fs′ ++ gs) (a .anewed) eF′) r in
+            b .fed M F q ns gs (drop-part M p (length xs) ms (ms′ ++ ns) (a .marked) eM′)
+            (drop-part F p (length xs) fs (fs′ ++ gs) (a .anewed) eF′) r in
             let s : p + length (xs ++ xs′) ≡ q + length xs′ = simp length-append (omega arith) in
             feed-joined E D d k iv M F (free p c) xs xs′ ∙ rw (first, second, s);
       }
@@ -96,7 +99,8 @@ module _ (E D : Cipher) (d : Direction) (k : Mode) (iv : List ℕ) where
   count-all zero = refl
   count-all (suc n) = ap suc (count-all n)
 
-  pub passes-clear : (fs : List Bool) (u : ℕ) (c xs : List ℕ) → u < 16 → length fs ≡ length xs → Passes E D d k iv (replicate (length xs) false) fs u c xs u c xs
+  pub passes-clear : (fs : List Bool) (u : ℕ) (c xs : List ℕ) → u < 16 → length fs ≡ length xs
+      → Passes E D d k iv (replicate (length xs) false) fs u c xs u c xs
   passes-clear fs u c xs l n =
       record {
         marked = length-replicate (length xs) false;
@@ -108,8 +112,10 @@ module _ (E D : Cipher) (d : Direction) (k : Mode) (iv : List ℕ) where
 -- ---- counter mode
 
 module _ (E D : Cipher) (d : Direction) (iv : List ℕ) (c : List ℕ) (long : 8 ≤ length c) where
-  ctr-feed : (M F : List Bool) (p j : ℕ) (xs : List ℕ) (ns : List Bool) → drop p M ≡ replicate (length xs) true ++ ns → count (take p M) % 16 ≡ j % 16
-      → feed E D d Counter iv M F (free p (counterAt c (j / 16))) xs ≡ left (p + length xs) (counterAt c ((j + length xs) / 16)) (ctr E c j xs)
+  ctr-feed : (M F : List Bool) (p j : ℕ) (xs : List ℕ) (ns : List Bool) → drop p M ≡ replicate (length xs) true ++ ns
+      → count (take p M) % 16 ≡ j % 16
+      → feed E D d Counter iv M F (free p (counterAt c (j / 16))) xs
+      ≡ left (p + length xs) (counterAt c ((j + length xs) / 16)) (ctr E c j xs)
   unfolding feed step ciphered counted ctr streamByte
   ctr-feed M F p j [] ns e h = rw (add-zero, add-zero)
   ctr-feed M F p j (x ∷ xs) ns e h =
@@ -117,10 +123,18 @@ module _ (E D : Cipher) (d : Direction) (iv : List ℕ) (c : List ℕ) (long : 8
       let s : p + suc (length xs) ≡ suc p + length xs = omega arith in
       let v : j + suc (length xs) ≡ suc j + length xs = omega arith in
       let m : getD M p false ≡ true = drop-head M p true _ t in
-      rw (m, next-block c long (count (take p M)) j h, h, s, v, ctr-feed M F (suc p) (suc j) xs ns (drop-tail M p true _ t) (rw (count-marked M p m) (omega arith)))
+      rw (
+        m,
+        next-block c long (count (take p M)) j h,
+        h,
+        s,
+        v,
+        ctr-feed M F (suc p) (suc j) xs ns (drop-tail M p true _ t) (rw (count-marked M p m) (omega arith)),
+      )
 
   pub passes-ctr : Bytes 16 c → (fs : List Bool) (u : ℕ) (xs : List ℕ) → u < 16 → length fs ≡ length xs
-      → Passes E D d Counter iv (replicate (length xs) true) fs u c xs ((u + length xs) % 16) (counterAt c ((u + length xs) / 16)) (ctr E c u xs)
+      → Passes E D d Counter iv (replicate (length xs) true) fs u c xs ((u + length xs) % 16) (counterAt c ((u + length xs) / 16))
+      (ctr E c u xs)
   passes-ctr b fs u xs l a =
       let z : u / 16 ≡ 0 = omega arith in
       record {
@@ -134,37 +148,46 @@ module _ (E D : Cipher) (d : Direction) (iv : List ℕ) (c : List ℕ) (long : 8
 
 module _ (E D : Cipher) (sE : Sized E) (sD : Sized D) (d : Direction) (iv : List ℕ) where
   passes-block : (a : Bool) (c b : List ℕ) → length b ≡ 16
-      → Passes E D d Chain iv (replicate 16 true) (replicate 16 a) 0 c b 0 (blockChain E D d (cond a iv c) b) (blockOut E D d (cond a iv c) b)
+      → Passes E D d Chain iv (replicate 16 true) (replicate 16 a) 0 c b 0 (blockChain E D d (cond a iv c) b)
+      (blockOut E D d (cond a iv c) b)
   unfolding count
   passes-block a c b n =
       record {
         marked = sym n;
         anewed = sym n;
         rank = refl;
-        fed = λ M F p ns gs eM eF h. block-feed E D sE sD d iv M F b p (p + length b) c [] a ns gs (omega arith) (omega arith) refl (rw n eM) (rw n eF);
+        fed = λ M F p ns gs eM eF h. block-feed E D sE sD d iv M F b p (p + length b) c [] a ns gs (omega arith)
+            (omega arith) refl (rw n eM) (rw n eF);
       }
 
   abbrev Run : ℕ → Bool → List ℕ → List ℕ → Type 0
   Run q a c xs =
-      Passes E D d Chain iv (replicate (16 + q * 16) true) (replicate 16 a ++ replicate (q * 16) false) 0 c xs 0 (chainEnd E D d (cond a iv c) xs) (cbc E D d (cond a iv c) xs)
+      Passes E D d Chain iv (replicate (16 + q * 16) true) (replicate 16 a ++ replicate (q * 16) false) 0 c xs 0
+      (chainEnd E D d (cond a iv c) xs) (cbc E D d (cond a iv c) xs)
 
   abbrev Later : ℕ → List ℕ → List ℕ → Type 0
-  Later q c xs = Passes E D d Chain iv (replicate (q * 16) true) (replicate (q * 16) false) 0 c xs 0 (chainEnd E D d c xs) (cbc E D d c xs)
+  Later q c xs =
+      Passes E D d Chain iv (replicate (q * 16) true) (replicate (q * 16) false) 0 c xs 0 (chainEnd E D d c xs) (cbc E D d c xs)
 
-  after : (q : ℕ) (a : Bool) (c xs : List ℕ) → length xs ≡ 16 + q * 16 → ((c xs : List ℕ) → length xs ≡ q * 16 → Later q c xs) → Run q a c xs
+  after : (q : ℕ) (a : Bool) (c xs : List ℕ) → length xs ≡ 16 + q * 16 → ((c xs : List ℕ) → length xs ≡ q * 16 → Later q c xs)
+      → Run q a c xs
   after q a c xs n rest =
       let nb : length (take 16 xs) ≡ 16 = length-take-le 16 xs (omega arith) in
-      let e : replicate (16 + q * 16) true ≡ replicate 16 true ++ replicate (q * 16) true = sym (replicate-append-replicate 16 (q * 16) true) in
+      let e : replicate (16 + q * 16) true ≡ replicate 16 true ++ replicate (q * 16) true =
+      sym (replicate-append-replicate 16 (q * 16) true) in
       rw (cbc-step E D d (cond a iv c) xs (omega arith), end-step E D d (cond a iv c) xs (omega arith), e)
       (rw (take-append-drop 16 xs) at
-      (passes-join (passes-block a c (take 16 xs) nb) (rest (blockChain E D d (cond a iv c) (take 16 xs)) (drop 16 xs) (length-drop 16 xs ∙ omega arith))))
+      (passes-join (passes-block a c (take 16 xs) nb)
+      (rest (blockChain E D d (cond a iv c) (take 16 xs)) (drop 16 xs) (length-drop 16 xs ∙ omega arith))))
 
   later : (q : ℕ) (c xs : List ℕ) → length xs ≡ q * 16 → Later q c xs
-  later zero c [] n = rw (cbc-rest E D d c [] (omega arith), end-rest E D d c [] (omega arith)) (passes-none E D d Chain iv 0 c (omega arith))
+  later zero c [] n =
+      rw (cbc-rest E D d c [] (omega arith), end-rest E D d c [] (omega arith)) (passes-none E D d Chain iv 0 c (omega arith))
   later zero c (x ∷ xs) n = absurd (omega arith)
   later (suc q) c xs n =
       let s : suc q * 16 ≡ 16 + q * 16 = omega arith in
-      let e : replicate (16 + q * 16) false ≡ replicate 16 false ++ replicate (q * 16) false = sym (replicate-append-replicate 16 (q * 16) false) in
+      let e : replicate (16 + q * 16) false ≡ replicate 16 false ++ replicate (q * 16) false =
+      sym (replicate-append-replicate 16 (q * 16) false) in
       rw (s, e) (after q false c xs (omega arith) (λ c xs n. later q c xs n))
 
   -- q blocks after a first one, in which the chain starts anew if a

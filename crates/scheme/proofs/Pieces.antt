@@ -2,16 +2,15 @@
 use mathlib.Core.Path.{_≡_, refl, sym, ap, _∙_}
 use mathlib.Core.Bool.{Bool, true, false, cond}
 use mathlib.Core.List.{List, [], _∷_, _++_, append-assoc, flatten}
-use Prim.Native.Nat.{ℕ, zero, suc, _+_, _/_, _%_, _≤_, _<_}
-use native.Mathlib.Nat.{zero-add, add-zero, suc-add, suc-inj}
+use Prim.Native.Nat.{ℕ, zero, suc, _+_, _%_}
+use native.Mathlib.Nat.{add-zero, suc-add}
 use native.Mathlib.Omega.{arith}
 use lib.Dec.{eqb}
-use lib.ListN.{length, getD, take, drop, length-append, length-drop}
-use lib.Seq.{getD-drop, drop-drop}
+use lib.ListN.{length, getD, take, length-append}
 use borrow.Author.Tests.{eqb-true, eqb-false}
 use Rattle.modes.specs.declared.Direction.{Direction}
 use Rattle.modes.specs.declared.Direction.the-variants.{Lock, Open}
-use Rattle.modes.specs.Modes.{Cipher, xors, blockOut, blockChain}
+use Rattle.modes.specs.Modes.{Cipher, xors, blockOut}
 use Rattle.scheme.specs.Layout.{count}
 use Rattle.scheme.specs.Machine.{State, Stepped, Mode, Counter, Chain, chainAt, plain, counted, chained, ciphered, step, feed}
 
@@ -55,13 +54,15 @@ module _ (E D : Cipher) (sE : Sized E) (sD : Sized D) where
   length-blockOut Open c b l = length-xors (D b) c ∙ sD b l
 
 module _ (E D : Cipher) (d : Direction) (k : Mode) (iv : List ℕ) (M F : List Bool) where
-  pub feed-append-state : (t : State) (xs ys : List ℕ) → feed E D d k iv M F t (xs ++ ys) .state ≡ feed E D d k iv M F (feed E D d k iv M F t xs .state) ys .state
+  pub feed-append-state : (t : State) (xs ys : List ℕ)
+      → feed E D d k iv M F t (xs ++ ys) .state ≡ feed E D d k iv M F (feed E D d k iv M F t xs .state) ys .state
   unfolding feed
   feed-append-state t [] ys = refl
   feed-append-state t (x ∷ xs) ys = feed-append-state (step E D d k iv M F t x .state) xs ys
 
   pub feed-append : (t : State) (xs ys : List ℕ)
-      → feed E D d k iv M F t (xs ++ ys) .released ≡ feed E D d k iv M F t xs .released ++ feed E D d k iv M F (feed E D d k iv M F t xs .state) ys .released
+      → feed E D d k iv M F t (xs ++ ys) .released
+      ≡ feed E D d k iv M F t xs .released ++ feed E D d k iv M F (feed E D d k iv M F t xs .state) ys .released
   unfolding feed
   feed-append t [] ys = refl
   feed-append t (x ∷ xs) ys = simp (feed-append (step E D d k iv M F t x .state) xs ys, append-assoc)
@@ -75,25 +76,23 @@ module _ (E D : Cipher) (d : Direction) (k : Mode) (iv : List ℕ) (M F : List B
         released = feed E D d k iv M F t p .released ++ feedAll (feed E D d k iv M F t p .state) ps .released;
       }
 
-  pub pieces-state : (t : State) (ps : List (List ℕ)) → feedAll t ps .state ≡ feed E D d k iv M F t (flatten ps) .state
-  unfolding feedAll feed flatten
-  pieces-state t [] = refl
-  pieces-state t (p ∷ ps) = pieces-state (feed E D d k iv M F t p .state) ps ∙ sym (feed-append-state t p (flatten ps))
-
   pub pieces-released : (t : State) (ps : List (List ℕ)) → feedAll t ps .released ≡ feed E D d k iv M F t (flatten ps) .released
   unfolding feedAll feed flatten
   pieces-released t [] = refl
   pieces-released t (p ∷ ps) =
-      ap (λ (l : List ℕ). feed E D d k iv M F t p .released ++ l) (pieces-released (feed E D d k iv M F t p .state) ps) ∙ sym (feed-append t p (flatten ps))
+      ap (λ (l : List ℕ). feed E D d k iv M F t p .released ++ l) (pieces-released (feed E D d k iv M F t p .state) ps)
+      ∙ sym (feed-append t p (flatten ps))
 
   -- what a step does to the position
   pub step-position : (t : State) (b : ℕ) → step E D d k iv M F t b .state .position ≡ suc (t .position)
   unfolding step plain ciphered counted chained
-  step-position t b = cond-law (λ (s : Stepped). s .state .position ≡ suc (t .position)) (getD M (t .position) false) (λ e. go k) (λ e. refl)
+  step-position t b =
+      cond-law (λ (s : Stepped). s .state .position ≡ suc (t .position)) (getD M (t .position) false) (λ e. go k) (λ e. refl)
     where
       go : (k : Mode) → ciphered E D d k iv M F k t b .state .position ≡ suc (t .position)
       go Counter = refl
-      go Chain = cond-law (λ (s : Stepped). s .state .position ≡ suc (t .position)) (eqb (length (t .held)) 15) (λ e. refl) (λ e. refl)
+      go Chain =
+          cond-law (λ (s : Stepped). s .state .position ≡ suc (t .position)) (eqb (length (t .held)) 15) (λ e. refl) (λ e. refl)
 
   pub feed-position : (t : State) (xs : List ℕ) → feed E D d k iv M F t xs .state .position ≡ t .position + length xs
   unfolding feed
@@ -115,7 +114,8 @@ pub record Added (k : Mode) (M : List Bool) (n : ℕ) (s : Stepped) : Type 0 whe
   pub sound : Sound k M (s .state)
 
 module _ (E D : Cipher) (sE : Sized E) (sD : Sized D) (d : Direction) (iv : List ℕ) (M F : List Bool) where
-  ciphered-adds : (k : Mode) (t : State) (b : ℕ) → getD M (t .position) false ≡ true → Sound k M t → Added k M (suc (length (t .held))) (ciphered E D d k iv M F k t b)
+  ciphered-adds : (k : Mode) (t : State) (b : ℕ) → getD M (t .position) false ≡ true → Sound k M t
+      → Added k M (suc (length (t .held))) (ciphered E D d k iv M F k t b)
   unfolding ciphered counted chained heldAfter count
   ciphered-adds Counter t b e h = record { sum = omega arith; sound = h }
   ciphered-adds Chain t b e h =
@@ -123,12 +123,20 @@ module _ (E D : Cipher) (sE : Sized E) (sD : Sized D) (d : Direction) (iv : List
       (λ full.
       let n : length (t .held) ≡ 15 = eqb-true _ _ full in
       record {
-        sum = rw (length-blockOut E D sE sD d (chainAt E D d Chain iv M F (t .position) (t .block)) (t .held ++ (b ∷ [])) (simp length-append (omega arith))) (omega arith);
+        sum = rw (length-blockOut E D sE sD d (chainAt E D d Chain iv M F (t .position) (t .block)) (t .held ++ (b ∷ []))
+            (simp length-append (omega arith)))
+            (omega arith);
         sound = rw (count-marked M (t .position) e) (omega arith);
       })
       (λ short.
       let n : (length (t .held) ≡ 15) → ⊥ = eqb-false _ _ short in
-      record { sum = simp length-append (omega arith); sound = simp (length-append, count-marked M (t .position) e) (omega arith) })
+      record {
+        sum = simp length-append (omega arith);
+        sound = simp (
+          length-append,
+          count-marked M (t .position) e,
+        ) (omega arith);
+      })
 
   step-adds : (k : Mode) (t : State) (b : ℕ) → Sound k M t → Added k M (suc (length (t .held))) (step E D d k iv M F t b)
   unfolding step plain heldAfter count
@@ -137,11 +145,17 @@ module _ (E D : Cipher) (sE : Sized E) (sD : Sized D) (d : Direction) (iv : List
       (λ e. ciphered-adds k t b e h)
       (λ e. record { sum = omega arith; sound = rw (count-unmarked M (t .position) e) h })
 
-  pub feed-adds : (k : Mode) (t : State) (xs : List ℕ) → Sound k M t → Added k M (length (t .held) + length xs) (feed E D d k iv M F t xs)
+  pub feed-adds : (k : Mode) (t : State) (xs : List ℕ) → Sound k M t
+      → Added k M (length (t .held) + length xs) (feed E D d k iv M F t xs)
   unfolding feed
   feed-adds k t [] h = record { sum = omega arith; sound = h }
   feed-adds k t (x ∷ xs) h =
       record {
-        sum = simp length-append (omega (arith, step-adds k t x h .sum, feed-adds k (step E D d k iv M F t x .state) xs (step-adds k t x h .sound) .sum));
+        sum = simp length-append
+            (omega (
+              arith,
+              step-adds k t x h .sum,
+              feed-adds k (step E D d k iv M F t x .state) xs (step-adds k t x h .sound) .sum,
+            ));
         sound = feed-adds k (step E D d k iv M F t x .state) xs (step-adds k t x h .sound) .sound;
       }

@@ -1,17 +1,17 @@
 -- Where a position lies, and what that says of its byte and of the bytes held there.
 use mathlib.Core.Path.{_≡_, refl, sym, ap, _∙_}
 use mathlib.Core.Bool.{Bool, true, false, cond, _&&_}
-use mathlib.Core.List.{List, [], _∷_, _++_, append-assoc, append-nil}
+use mathlib.Core.List.{List, [], _∷_, _++_, append-nil}
 use Prim.Native.Nat.{ℕ, zero, suc, _+_, _-_, _*_, _/_, _%_, _≤_, _<_}
 use native.Mathlib.Nat.{zero-add, add-zero, suc-add}
 use native.Mathlib.Omega.{arith}
-use lib.Dec.{leb, ltb, eqb}
-use lib.ListN.{length, getD, take, drop, replicate, length-append, length-replicate, getD-replicate, List·getD-append}
+use lib.Dec.{ltb}
+use lib.ListN.{length, getD, take, replicate, length-replicate, getD-replicate, List·getD-append}
 use lib.Seq.{getD-append-add, take-append-le, take-append-add, take-all, take-nil}
-use borrow.Author.Tests.{ltb-true, ltb-false, lt-ltb, le-ltb}
+use borrow.Author.Tests.{ltb-true, ltb-false, le-ltb}
 use Rattle.scheme.specs.declared.Scheme.{Scheme}
 use Rattle.scheme.specs.declared.Scheme.the-variants.{Cenc, Cbc1, Cens, Cbcs}
-use Rattle.scheme.specs.Layout.{Entry, total, inWholeBlock, inCryptRun, tabulate, isCiphered, rangeMarks, marks, mask}
+use Rattle.scheme.specs.Layout.{Entry, inWholeBlock, inCryptRun, tabulate, isCiphered, rangeMarks, marks, mask}
 use Rattle.scheme.specs.Layout.{count}
 use Rattle.scheme.specs.Held.{Place, Clear, Inside, place, inPlace, inBlock}
 use Rattle.scheme.proofs.Pieces.{cond-law}
@@ -34,12 +34,14 @@ getD-after l k n x e u = let s : length l + (x - n) ≡ x = omega arith in rw s 
 
 -- what holds of the entries' places: of a clear one, of one in a range, and of one behind both
 module _ (P : Place → Type 0) (e : Entry) (es : List Entry) (x : ℕ) where
-  pub place-law : (x < e .clear → P Clear) → (e .clear ≤ x → x - e .clear < e .protected → P (Inside (e .protected) (x - e .clear)))
+  pub place-law : (x < e .clear → P Clear)
+      → (e .clear ≤ x → x - e .clear < e .protected → P (Inside (e .protected) (x - e .clear)))
       → (e .clear ≤ x → e .protected ≤ x - e .clear → P (place es (x - e .clear - e .protected))) → P (place (e ∷ es) x)
   unfolding place
   place-law f g h =
       cond-law P (ltb x (e .clear)) (λ u. f (ltb-true _ _ u))
-      (λ u. cond-law P (ltb (x - e .clear) (e .protected)) (λ v. g (ltb-false _ _ u) (ltb-true _ _ v)) (λ v. h (ltb-false _ _ u) (ltb-false _ _ v)))
+      (λ u. cond-law P (ltb (x - e .clear) (e .protected)) (λ v. g (ltb-false _ _ u) (ltb-true _ _ v))
+      (λ v. h (ltb-false _ _ u) (ltb-false _ _ v)))
 
 module _ (f : ℕ → ℕ → Bool) where
   pub marks-at : (es : List Entry) (x : ℕ) → getD (marks f es) x false ≡ inPlace false f (place es x)
@@ -51,8 +53,10 @@ module _ (f : ℕ → ℕ → Bool) where
       let B : List Bool = rangeMarks f (e .protected) in
       place-law (λ (p : Place). getD (A ++ (B ++ marks f es)) x false ≡ inPlace false f p) e es x
       (λ u. List·getD-append A (B ++ marks f es) false x (simp length-replicate u) ∙ getD-replicate a x false false u)
-      (λ u v. getD-after A (B ++ marks f es) a x (length-replicate a false) u ∙ List·getD-append B (marks f es) false (x - a) (simp length-range v) ∙ getD-range f (e .protected) (x - a) v)
-      (λ u v. getD-after A (B ++ marks f es) a x (length-replicate a false) u ∙ getD-after B (marks f es) (e .protected) (x - a) (length-range f (e .protected)) v ∙ marks-at es (x - a - e .protected))
+      (λ u v. getD-after A (B ++ marks f es) a x (length-replicate a false) u
+      ∙ List·getD-append B (marks f es) false (x - a) (simp length-range v) ∙ getD-range f (e .protected) (x - a) v)
+      (λ u v. getD-after A (B ++ marks f es) a x (length-replicate a false) u
+      ∙ getD-after B (marks f es) (e .protected) (x - a) (length-range f (e .protected)) v ∙ marks-at es (x - a - e .protected))
 
 -- ---- the bytes of a block that isn't complete yet
 
@@ -100,9 +104,11 @@ module _ (G : ℕ → Bool) where
       let s : m ≡ 16 + (q * 16 + r) = omega arith in
       let n : suc k + q ≡ k + suc q = omega arith in
       rw (s, tabulate-block G k (q * 16 + r))
-      (go (tabulate (byBlock G) (suc k * 16) (q * 16 + r)) (range-rank q (suc k) r (q * 16 + r) (x - 16) refl l (rw n g) (omega arith)) (ltb x 16) refl)
+      (go (tabulate (byBlock G) (suc k * 16) (q * 16 + r))
+      (range-rank q (suc k) r (q * 16 + r) (x - 16) refl l (rw n g) (omega arith)) (ltb x 16) refl)
     where
-      go : (T : List Bool) → count (take (x - 16) T) % 16 ≡ cond (G (suc k + (x - 16) / 16)) ((x - 16) % 16) 0 → (b : Bool) → ltb x 16 ≡ b
+      go : (T : List Bool) → count (take (x - 16) T) % 16 ≡ cond (G (suc k + (x - 16) / 16)) ((x - 16) % 16) 0 → (b : Bool)
+          → ltb x 16 ≡ b
           → count (take x (replicate 16 (G k) ++ T)) % 16 ≡ cond (G (k + x / 16)) (x % 16) 0
       go T h true e =
           let t : x < 16 = ltb-true x 16 e in
@@ -112,7 +118,12 @@ module _ (G : ℕ → Bool) where
           let t : 16 ≤ x = ltb-false x 16 e in
           let n : suc k + (x - 16) / 16 ≡ k + x / 16 = omega arith in
           let i : (x - 16) % 16 ≡ x % 16 = omega arith in
-          rw (count-after (replicate 16 (G k)) T 16 x refl t, count-run (G k) 16 16 (omega arith), cond-block (G k) (count (take (x - 16) T))) (rw (n, i) at h)
+          rw (
+            count-after (replicate 16 (G k)) T 16 x refl t,
+            count-run (G k) 16 16 (omega arith),
+            cond-block (G k) (count (take (x - 16) T)),
+          )
+          (rw (n, i) at h)
 
 module _ (G : ℕ → ℕ → Bool) (last : (n : ℕ) → G n (n / 16) ≡ false) where
   abbrev inBlocks : ℕ → ℕ → Bool
@@ -126,7 +137,8 @@ module _ (G : ℕ → ℕ → Bool) (last : (n : ℕ) → G n (n / 16) ≡ false
   in-range n x u = rw zero-add at (range-rank (G n) (n / 16) 0 (n % 16) n x (omega arith) (omega arith) (rw zero-add (last n)) u)
 
   whole-range : (n : ℕ) → count (rangeMarks inBlocks n) % 16 ≡ 0
-  whole-range n = rw (last n, take-all n (rangeMarks inBlocks n) (simp length-range (omega arith))) at (in-range n n (omega arith))
+  whole-range n =
+      rw (last n, take-all n (rangeMarks inBlocks n) (simp length-range (omega arith))) at (in-range n n (omega arith))
 
   rank-at : (es : List Entry) (x : ℕ) → count (take x (marks inBlocks es)) % 16 ≡ over16 (place es x)
   unfolding marks place inPlace count
@@ -138,12 +150,25 @@ module _ (G : ℕ → ℕ → Bool) (last : (n : ℕ) → G n (n / 16) ≡ false
       let B : List Bool = rangeMarks inBlocks b in
       let C : List Bool = marks inBlocks es in
       place-law (λ (p : Place). count (take x (A ++ (B ++ C))) % 16 ≡ over16 p) e es x
-      (λ u. rw (take-append-le x A (B ++ C) (simp length-replicate (omega arith)), count-run false a x (omega arith)) (cond-mod false x))
+      (λ u. rw (
+        take-append-le x A (B ++ C) (simp length-replicate (omega arith)),
+        count-run false a x (omega arith),
+      ) (cond-mod false x))
       (λ u v.
-      rw (count-after A (B ++ C) a x (length-replicate a false) u, count-none a, zero-add, take-append-le (x - a) B C (simp length-range (omega arith)))
+      rw (
+        count-after A (B ++ C) a x (length-replicate a false) u,
+        count-none a,
+        zero-add,
+        take-append-le (x - a) B C (simp length-range (omega arith)),
+      )
       (in-range b (x - a) (omega arith)))
       (λ u v.
-      rw (count-after A (B ++ C) a x (length-replicate a false) u, count-none a, zero-add, count-after B C b (x - a) (length-range inBlocks b) v)
+      rw (
+        count-after A (B ++ C) a x (length-replicate a false) u,
+        count-none a,
+        zero-add,
+        count-after B C b (x - a) (length-range inBlocks b) v,
+      )
       (let w : count (rangeMarks inBlocks b) % 16 ≡ 0 = whole-range b in
       let s : (count (rangeMarks inBlocks b) + count (take (x - a - b) C)) % 16 ≡ count (take (x - a - b) C) % 16 = omega arith in
       s ∙ rank-at es (x - a - b)))
@@ -153,7 +178,8 @@ module _ (crypt skip : ℕ) where
   past : (n : ℕ) → ltb (n / 16) (n / 16) ≡ false
   past n = le-ltb (n / 16) (n / 16) (omega arith)
 
-  pub rank-block : (s : Scheme) → (s ≡ Cenc → ⊥) → (es : List Entry) (x : ℕ) → count (take x (mask s crypt skip es)) % 16 ≡ inBlock crypt skip s (place es x)
+  pub rank-block : (s : Scheme) → (s ≡ Cenc → ⊥) → (es : List Entry) (x : ℕ)
+      → count (take x (mask s crypt skip es)) % 16 ≡ inBlock crypt skip s (place es x)
   unfolding mask inBlock isCiphered inWholeBlock inCryptRun
   rank-block Cenc h es x = absurd (h refl)
   rank-block Cbc1 h es x = rank-at (λ (n k : ℕ). ltb k (n / 16)) past es x

@@ -1,12 +1,12 @@
 -- A part of a protected range, one run a turn.
 use mathlib.Core.Path.{_≡_, refl, sym, ap, _∙_}
 use mathlib.Core.Bool.{Bool, true, false}
-use mathlib.Core.List.{List, [], _∷_, _++_, append-assoc, append-nil}
-use Prim.Native.Nat.{ℕ, zero, suc, _+_, _-_, _*_, _/_, _%_, _≤_, _<_, min}
-use native.Mathlib.Nat.{add-zero, zero-add}
+use mathlib.Core.List.{List, [], _++_}
+use Prim.Native.Nat.{ℕ, _+_, _-_, _/_, _%_, _≤_, _<_, min}
+use native.Mathlib.Nat.{add-zero}
 use native.Mathlib.Omega.{arith}
-use lib.Dec.{leb, ltb, eqb}
-use lib.ListN.{length, getD, take, drop, replicate, length-append, length-drop, length-take, length-replicate, getD-replicate}
+use lib.Dec.{ltb}
+use lib.ListN.{length, take, drop, replicate, length-drop, length-replicate, getD-replicate}
 use lib.Seq.{take-length, ext-getD, getD-take, getD-drop, drop-drop, take-add, length-take-le}
 use borrow.Author.Tests.{ne-eqb, ltb-true, ltb-false}
 use borrow.Rule.Slice.PartMut.{putMid}
@@ -19,7 +19,7 @@ use Rattle.scheme.proofs.Agreement.{length-range}
 use Rattle.scheme.proofs.Positions.{getD-range}
 use Rattle.scheme.specs.Machine.{Mode, Counter, Chain, modeOf}
 use Rattle.scheme.proofs.Passes.{Passes, passes-none, passes-join, passes-clear}
-use Rattle.scheme.proofs.Walk.{RestartsAt, Blocks, Free, Pattern, RunAt, RangeAsks, RangeSays}
+use Rattle.scheme.proofs.Walk.{RestartsAt, Blocks, Free, RunAt, RangeAsks, RangeSays}
 use Rattle.octets.proofs.Fill.{Filled, fill-none, fill-length, fill-all, fill-drop, fill-part, fill-keep}
 
 -- ---- the marks that a run meets
@@ -33,7 +33,13 @@ module _ (f : ℕ → ℕ → Bool) (n o m : ℕ) (within : o + m ≤ n) where
       ext-getD false (take m (drop o (rangeMarks f n))) (replicate m b) (marks-length ∙ sym (length-replicate m b))
       (λ i l.
       let k : i < m = omega (arith, marks-length) in
-      rw (getD-take m (drop o (rangeMarks f n)) i false k, getD-drop o (rangeMarks f n) i false, getD-range f n (o + i) (omega arith), getD-replicate m i b false k) (h (o + i) (omega arith) (omega arith)))
+      rw (
+        getD-take m (drop o (rangeMarks f n)) i false k,
+        getD-drop o (rangeMarks f n) i false,
+        getD-range f n (o + i) (omega arith),
+        getD-replicate m i b false k,
+      )
+      (h (o + i) (omega arith) (omega arith)))
 
 starts-same : (s : Scheme) (n o x : ℕ) → o % 16 ≡ 0 → o ≤ x → x < o + 16 → restarts s n x ≡ restarts s n o
 unfolding restarts
@@ -50,7 +56,8 @@ starts-later Cens n x h = refl
 starts-later Cbcs n x h = ne-eqb (x / 16) 0 (omega arith)
 
 module _ (s : Scheme) (n o m : ℕ) (within : o + m ≤ n) where
-  anew-marks : o % 16 ≡ 0 → 16 ≤ m → take m (drop o (rangeMarks (restarts s) n)) ≡ replicate 16 (restarts s n o) ++ replicate (m - 16) false
+  anew-marks : o % 16 ≡ 0 → 16 ≤ m
+      → take m (drop o (rangeMarks (restarts s) n)) ≡ replicate 16 (restarts s n o) ++ replicate (m - 16) false
   anew-marks h l =
       let e : m ≡ 16 + (m - 16) = omega arith in
       ap (λ (k : ℕ). take k (drop o (rangeMarks (restarts s) n))) e
@@ -61,7 +68,8 @@ module _ (s : Scheme) (n o m : ℕ) (within : o + m ≤ n) where
         run-marks (restarts s) n (o + 16) (m - 16) (omega arith) false (λ x a b. starts-later s n x (omega arith)),
       )
 
-  fresh-at : (k : Mode) → (k ≡ Chain → (o % 16 ≡ 0) × (16 ≤ m)) → RestartsAt k (restarts s n o) (take m (drop o (rangeMarks (restarts s) n))) m
+  fresh-at : (k : Mode) → (k ≡ Chain → (o % 16 ≡ 0) × (16 ≤ m))
+      → RestartsAt k (restarts s n o) (take m (drop o (rangeMarks (restarts s) n))) m
   unfolding RestartsAt
   fresh-at Counter h = marks-length (restarts s) n o m within
   fresh-at Chain h = anew-marks (h refl .0) (h refl .1)
@@ -73,16 +81,27 @@ module _ (E D : Cipher) (d : Direction) (s : Scheme) (crypt skip : ℕ) (iv : Li
   pub record Ranged (ys b : List ℕ) (v i : ℕ) : Type 0 where
     pub done : List ℕ
     pub filled : Filled xs ys done i
-    pub passes : Passes E D d (modeOf s) iv (take i (drop o (rangeMarks (isCiphered s crypt skip) n))) (take i (drop o (rangeMarks (restarts s) n))) u c (take i xs) v b done
+    pub passes : Passes E D d (modeOf s) iv (take i (drop o (rangeMarks (isCiphered s crypt skip) n)))
+        (take i (drop o (rangeMarks (restarts s) n))) u c (take i xs) v b done
     pub used : v < 16
     pub unused : modeOf s ≡ Chain → v ≡ 0
     pub free : Free s crypt skip n (o + i)
 
   module _ (a : RangeAsks s crypt skip n o (length xs) u) where
     pub range-start : Ranged xs c u 0
-    range-start = record { done = []; filled = fill-none xs [] refl; passes = passes-none E D d (modeOf s) iv u c (a .used); used = a .used; unused = a .unused; free = rw add-zero (a .from) }
+    range-start =
+        record {
+          done = [];
+          filled = fill-none xs [] refl;
+          passes = passes-none E D d (modeOf s) iv u c
+              (a .used);
+          used = a .used;
+          unused = a .unused;
+          free = rw add-zero (a .from);
+        }
 
-    module _ {ys b : List ℕ} {v i : ℕ} (r : Ranged ys b v i) (l : i < length xs) {t : Bool} {e : ℕ} (run : RunAt s crypt skip n (o + i) t e) (m : ℕ) (em : m ≡ min (e - (o + i)) (length ys - i)) where
+    module _ {ys b : List ℕ} {v i : ℕ} (r : Ranged ys b v i) (l : i < length xs) {t : Bool} {e : ℕ}
+        (run : RunAt s crypt skip n (o + i) t e) (m : ℕ) (em : m ≡ min (e - (o + i)) (length ys - i)) where
       size : length ys ≡ length xs
       size = fill-length (r .filled)
 
@@ -122,8 +141,10 @@ module _ (E D : Cipher) (d : Direction) (s : Scheme) (crypt skip : ℕ) (iv : Li
       pub range-asked : t ≡ true → modeOf s ≡ Chain → Blocks v (length (take (i + m - i) (drop i ys)))
       range-asked et k = rw range-sub (range-blocks et k)
 
-      join-turns : (v′ : ℕ) (b′ z : List ℕ) → Passes E D d (modeOf s) iv (replicate m t) (take m (drop (o + i) (rangeMarks (restarts s) n))) v b w v′ b′ z
-          → Passes E D d (modeOf s) iv (take (i + m) (drop o (rangeMarks (isCiphered s crypt skip) n))) (take (i + m) (drop o (rangeMarks (restarts s) n))) u c (take (i + m) xs) v′ b′ (r .done ++ z)
+      join-turns : (v′ : ℕ) (b′ z : List ℕ)
+          → Passes E D d (modeOf s) iv (replicate m t) (take m (drop (o + i) (rangeMarks (restarts s) n))) v b w v′ b′ z
+          → Passes E D d (modeOf s) iv (take (i + m) (drop o (rangeMarks (isCiphered s crypt skip) n)))
+          (take (i + m) (drop o (rangeMarks (restarts s) n))) u c (take (i + m) xs) v′ b′ (r .done ++ z)
       join-turns v′ b′ z j =
           rw (
             take-add i m (drop o (rangeMarks (isCiphered s crypt skip) n)),
@@ -140,7 +161,9 @@ module _ (E D : Cipher) (d : Direction) (s : Scheme) (crypt skip : ℕ) (iv : Li
           record {
             done = r .done ++ w;
             filled = fill-keep (r .filled) m (omega (arith, size));
-            passes = join-turns v b w (rw et (rw size-w at (passes-clear E D d (modeOf s) iv (take m (drop (o + i) (rangeMarks (restarts s) n))) v b w (r .used) (marks-length (restarts s) n (o + i) m within ∙ sym size-w))));
+            passes = join-turns v b w
+                (rw et (rw size-w at (passes-clear E D d (modeOf s) iv (take m (drop (o + i) (rangeMarks (restarts s) n))) v b w
+                (r .used) (marks-length (restarts s) n (o + i) m within ∙ sym size-w))));
             used = r .used;
             unused = r .unused;
             free = free-next;
@@ -148,13 +171,15 @@ module _ (E D : Cipher) (d : Direction) (s : Scheme) (crypt skip : ℕ) (iv : Li
 
       pub range-turned : t ≡ true → (z b′ : List ℕ) → length z ≡ length (take (i + m - i) (drop i ys))
           → ((fs : List Bool) → RestartsAt (modeOf s) (restarts s n (o + i)) fs (length (take (i + m - i) (drop i ys)))
-          → Passes E D d (modeOf s) iv (replicate (length (take (i + m - i) (drop i ys))) true) fs v b (take (i + m - i) (drop i ys)) ((v + length (take (i + m - i) (drop i ys))) % 16) b′ z)
+          → Passes E D d (modeOf s) iv (replicate (length (take (i + m - i) (drop i ys))) true) fs v b
+          (take (i + m - i) (drop i ys)) ((v + length (take (i + m - i) (drop i ys))) % 16) b′ z)
           → Ranged (putMid i (i + m - i) ys z) b′ ((v + (i + m - i)) % 16) (i + m)
       range-turned et z b′ nz turned =
           let j : i + m - i ≡ m = omega arith in
           let sub : take (i + m - i) (drop i ys) ≡ w = rw (j, fill-drop (r .filled)) in
           let k : length z ≡ m = nz ∙ ap length sub ∙ size-w in
-          let chain : modeOf s ≡ Chain → ((o + i) % 16 ≡ 0) × (16 ≤ m) = λ h. (r .free h (run .same (o + i) (omega arith) (run .past) ∙ et), range-blocks et h .some) in
+          let chain : modeOf s ≡ Chain → ((o + i) % 16 ≡ 0) × (16 ≤ m) =
+          λ h. (r .free h (run .same (o + i) (omega arith) (run .past) ∙ et), range-blocks et h .some) in
           let fs : List Bool = take m (drop (o + i) (rangeMarks (restarts s) n)) in
           let given : Passes E D d (modeOf s) iv (replicate m t) fs v b w ((v + m) % 16) b′ z =
           rw et ((rw (sub, size-w) at (turned fs)) (fresh-at s n (o + i) m within (modeOf s) chain)) in
@@ -167,7 +192,8 @@ module _ (E D : Cipher) (d : Direction) (s : Scheme) (crypt skip : ℕ) (iv : Li
             free = free-next;
           }
 
-    pub range-end : {ys b : List ℕ} {v i : ℕ} → Ranged ys b v i → length xs ≤ i → RangeSays E D d s crypt skip iv n o u c xs v b ys
+    pub range-end : {ys b : List ℕ} {v i : ℕ} → Ranged ys b v i → length xs ≤ i
+        → RangeSays E D d s crypt skip iv n o u c xs v b ys
     range-end {i = i} r l =
         let e : i ≡ length xs = omega (arith, r .filled .fits) in
         record { passes = rw (fill-all (r .filled) l) (rw (e, take-length xs) at (r .passes)); unused = r .unused }

@@ -1,33 +1,30 @@
 -- A part of a sample, one entry a turn.
 use mathlib.Core.Path.{_≡_, refl, sym, ap, _∙_}
 use mathlib.Core.Bool.{Bool, true, false}
-use mathlib.Core.List.{List, [], _∷_, _++_, append-assoc, append-nil}
+use mathlib.Core.List.{List, [], _∷_, _++_, append-assoc}
 use Prim.Native.Nat.{ℕ, zero, suc, _+_, _-_, _*_, _/_, _%_, _^_, _≤_, _<_, min}
 use native.Mathlib.Nat.{add-zero, zero-add}
 use native.Mathlib.Numerals.{add-one}
 use native.Mathlib.Omega.{arith}
-use lib.Dec.{leb, ltb, eqb}
-use lib.ListN.{length, getD, take, drop, replicate, length-append, length-drop, length-replicate, take-append-drop, drop-of-length-le}
-use lib.Seq.{drop-drop, take-add, length-take-le, drop-append-le, take-append-le, drop-append-add, take-length, drop-at, drop-cons, drop-nil}
-use borrow.Author.Tests.{ltb-true, ltb-false, lt-ltb, le-ltb}
+use lib.Dec.{ltb}
+use lib.ListN.{length, getD, take, drop, replicate, length-append, length-drop, length-replicate, take-append-drop}
+use lib.Seq.{drop-drop, take-add, length-take-le, drop-append-le, take-append-le, drop-append-add, take-length, drop-at, drop-nil}
+use borrow.Author.Tests.{ltb-true, ltb-false, le-ltb}
 use borrow.Rule.Slice.PartMut.{putMid}
 use Rattle.modes.specs.declared.Direction.{Direction}
 use Rattle.scheme.specs.declared.Scheme.{Scheme}
 use Rattle.scheme.specs.declared.Scheme.the-variants.{Cenc, Cbc1, Cens, Cbcs}
-use Rattle.scheme.specs.Layout.{Entry, entry, entries, total, inWholeBlock, inCryptRun, isCiphered, restarts, rangeMarks, marks, mask, restartMask}
+use Rattle.scheme.specs.Layout.{Entry, entry, entries, total, inWholeBlock, isCiphered, restarts, rangeMarks, marks, mask, restartMask}
 use Rattle.modes.specs.Modes.{Cipher}
-use Rattle.scheme.proofs.Agreement.{length-range, machine-whole}
-use Rattle.scheme.specs.Machine.{free}
-use Rattle.scheme.specs.WholeSample.{whole}
-use Rattle.octets.specs.Bytes.{Bytes}
-use Rattle.scheme.proofs.Pieces.{cond-law, heldAfter, Sized}
-use Rattle.scheme.specs.Held.{Place, Clear, Inside, place, inPlace, inBlock}
-use Rattle.scheme.proofs.Positions.{place-law, rank-block}
+use Rattle.scheme.proofs.Agreement.{length-range}
+use Rattle.scheme.proofs.Pieces.{cond-law, heldAfter}
+use Rattle.scheme.specs.Held.{Place, place, inPlace, inBlock}
+use Rattle.scheme.proofs.Positions.{place-law}
 use Rattle.scheme.specs.Held.{heldAt}
 use Rattle.scheme.proofs.Demand.{heldAt-is}
 use Rattle.scheme.specs.Layout.{count}
-use Rattle.scheme.specs.Machine.{Stepped, Mode, Counter, Chain, modeOf, feedSample}
-use Rattle.scheme.proofs.Passes.{Passes, passes-none, passes-join, left, count-part}
+use Rattle.scheme.specs.Machine.{Chain, modeOf, feedSample}
+use Rattle.scheme.proofs.Passes.{Passes, passes-none, passes-join, count-part}
 use Rattle.scheme.proofs.Walk.{Free, Pattern, entryMarks, EntryAsks, EntrySays, SampleAsks, SampleSays}
 use Rattle.octets.proofs.Fill.{Filled, fill-none, fill-length, fill-all, fill-drop, fill-part}
 use Rattle.scheme.proofs.Runs.{apart}
@@ -46,7 +43,8 @@ module _ (crypt skip : ℕ) where
   held-chain Cbcs es x e = refl
 
   -- past the entry
-  place-next : (a n : ℕ) (es : List Entry) (x : ℕ) → a + n ≤ x → place ((record { clear = a; protected = n }) ∷ es) x ≡ place es (x - (a + n))
+  place-next : (a n : ℕ) (es : List Entry) (x : ℕ) → a + n ≤ x
+      → place ((record { clear = a; protected = n }) ∷ es) x ≡ place es (x - (a + n))
   unfolding place
   place-next a n es x l =
       let e : x - a - n ≡ x - (a + n) = omega arith in
@@ -64,10 +62,13 @@ module _ (crypt skip : ℕ) where
       (λ u v. let z : 0 - e .clear - e .protected ≡ 0 = omega arith in rw z (held-start s es))
 
   -- within the entry
-  held-free : (s : Scheme) (a n : ℕ) (es : List Entry) (x : ℕ) → x < a + n → Held s (place ((record { clear = a; protected = n }) ∷ es) x) ≡ 0 → isCiphered s crypt skip n (x - a) ≡ true → (x - a) % 16 ≡ 0
+  held-free : (s : Scheme) (a n : ℕ) (es : List Entry) (x : ℕ) → x < a + n
+      → Held s (place ((record { clear = a; protected = n }) ∷ es) x) ≡ 0 → isCiphered s crypt skip n (x - a) ≡ true
+      → (x - a) % 16 ≡ 0
   unfolding inBlock inPlace
   held-free s a n es x l =
-      place-law (λ (p : Place). Held s p ≡ 0 → isCiphered s crypt skip n (x - a) ≡ true → (x - a) % 16 ≡ 0) (record { clear = a; protected = n }) es x (λ u h e. omega arith)
+      place-law (λ (p : Place). Held s p ≡ 0 → isCiphered s crypt skip n (x - a) ≡ true → (x - a) % 16 ≡ 0)
+      (record { clear = a; protected = n }) es x (λ u h e. omega arith)
       (λ u v h e. rw e at h)
       (λ u v. absurd (omega arith))
 
@@ -77,7 +78,9 @@ module _ (crypt skip : ℕ) where
   free-end Cenc n k e = apart k
   free-end Cbc1 n k e = absurd (let z : _≡_ {A = ℕ} 0 1 = cc (le-ltb (n / 16) (n / 16) (omega arith)) in omega arith)
   free-end Cens n k e = apart k
-  free-end Cbcs n k e = let f : false ≡ true = rw (le-ltb (n / 16) (n / 16) (omega arith)) at e in absurd (let z : _≡_ {A = ℕ} 0 1 = cc in omega arith)
+  free-end Cbcs n k e =
+      let f : false ≡ true = rw (le-ltb (n / 16) (n / 16) (omega arith)) at e in
+      absurd (let z : _≡_ {A = ℕ} 0 1 = cc in omega arith)
 
 -- ---- the entries
 
@@ -112,11 +115,13 @@ module _ (s : Scheme) (crypt skip : ℕ) (es : List Entry) where
     pub from : modeOf s ≡ Chain → Held crypt skip s (place (drop k es) o) ≡ 0
     pub to : modeOf s ≡ Chain → Held crypt skip s (place (drop k es) (o + m)) ≡ 0
 
-module _ (E D : Cipher) (d : Direction) (s : Scheme) (crypt skip : ℕ) (iv : List ℕ) (es : List Entry) (x u : ℕ) (c xs : List ℕ) where
+module _ (E D : Cipher) (d : Direction) (s : Scheme) (crypt skip : ℕ) (iv : List ℕ) (es : List Entry) (x u : ℕ)
+    (c xs : List ℕ) where
   pub record Walked (ys b : List ℕ) (v i k o : ℕ) : Type 0 where
     pub done : List ℕ
     pub filled : Filled xs ys done i
-    pub passes : Passes E D d (modeOf s) iv (take i (drop x (mask s crypt skip es))) (take i (drop x (restartMask s es))) u c (take i xs) v b done
+    pub passes : Passes E D d (modeOf s) iv (take i (drop x (mask s crypt skip es))) (take i (drop x (restartMask s es))) u c
+        (take i xs) v b done
     pub used : v < 16
     pub unused : modeOf s ≡ Chain → v ≡ 0
     pub rest : i < length xs → Rest s crypt skip es (x + i) (length xs - i) k o
@@ -141,23 +146,37 @@ module _ (E D : Cipher) (d : Direction) (s : Scheme) (crypt skip : ℕ) (iv : Li
         })
 
     pub walk-start : Walked xs c u 0 0 x
-    walk-start = record { done = []; filled = fill-none xs [] refl; passes = passes-none E D d (modeOf s) iv u c below; used = below; unused = none-used; rest = λ l. first }
+    walk-start =
+        record {
+          done = [];
+          filled = fill-none xs [] refl;
+          passes = passes-none E D d (modeOf s) iv u c below;
+          used = below;
+          unused = none-used;
+          rest = λ l. first;
+        }
 
-    pub walk-end : {ys b : List ℕ} {v i k o : ℕ} → Walked ys b v i k o → length xs ≤ i → SampleSays E D d s crypt skip iv es x c xs v b ys
+    pub walk-end : {ys b : List ℕ} {v i k o : ℕ} → Walked ys b v i k o → length xs ≤ i
+        → SampleSays E D d s crypt skip iv es x c xs v b ys
     unfolding feedSample
     walk-end {ys} {b} {v} {i} w l =
         let e : i ≡ length xs = omega (arith, w .filled .fits) in
         let M : List Bool = mask s crypt skip es in
         let F : List Bool = restartMask s es in
-        let t : Passes E D d (modeOf s) iv (take (length xs) (drop x M)) (take (length xs) (drop x F)) u c xs v b ys = rw (fill-all (w .filled) l) (rw (e, take-length xs) at (w .passes)) in
-        let p : drop x M ≡ take (length xs) (drop x M) ++ drop (length xs) (drop x M) = sym (take-append-drop (length xs) (drop x M)) in
-        let q : drop x F ≡ take (length xs) (drop x F) ++ drop (length xs) (drop x F) = sym (take-append-drop (length xs) (drop x F)) in
+        let t : Passes E D d (modeOf s) iv (take (length xs) (drop x M)) (take (length xs) (drop x F)) u c xs v b ys =
+        rw (fill-all (w .filled) l) (rw (e, take-length xs) at (w .passes)) in
+        let p : drop x M ≡ take (length xs) (drop x M) ++ drop (length xs) (drop x M) =
+        sym (take-append-drop (length xs) (drop x M)) in
+        let q : drop x F ≡ take (length xs) (drop x F) ++ drop (length xs) (drop x F) =
+        sym (take-append-drop (length xs) (drop x F)) in
         record {
           fed = t .fed M F x _ _ p q (a .rank);
-          rank = rw (count-part M x (length xs) (take (length xs) (drop x M)) (drop (length xs) (drop x M)) (t .marked) p) (let h = t .rank in let g = a .rank in omega arith);
+          rank = rw (count-part M x (length xs) (take (length xs) (drop x M)) (drop (length xs) (drop x M)) (t .marked) p)
+              (let h = t .rank in let g = a .rank in omega arith);
         }
 
-    module _ {ys b : List ℕ} {v i k o : ℕ} (w : Walked ys b v i k o) (l : i < length xs) (p n : ℕ) (here : drop k es ≡ (record { clear = p; protected = n }) ∷ drop (k + 1) es) where
+    module _ {ys b : List ℕ} {v i k o : ℕ} (w : Walked ys b v i k o) (l : i < length xs) (p n : ℕ)
+        (here : drop k es ≡ (record { clear = p; protected = n }) ∷ drop (k + 1) es) where
       abbrev next : List Entry
       next = drop (k + 1) es
 
@@ -196,7 +215,10 @@ module _ (E D : Cipher) (d : Direction) (s : Scheme) (crypt skip : ℕ) (iv : Li
             used = w .used;
             unused = w .unused;
             rest = λ l. record {
-              marked = λ f. marked f ∙ (let y : o ≡ length (entryMarks f p n) + (o - (p + n)) = rw entry-length (omega arith) in ap (λ (z : ℕ). drop z (entryMarks f p n ++ marks f next)) y ∙ drop-append-add (entryMarks f p n) (marks f next) (o - (p + n)));
+              marked = λ f.
+                  let y : o ≡ length (entryMarks f p n) + (o - (p + n)) = rw entry-length (omega arith) in
+                  marked f ∙ ap (λ (z : ℕ). drop z (entryMarks f p n ++ marks f next)) y
+                  ∙ drop-append-add (entryMarks f p n) (marks f next) (o - (p + n));
               room = omega (arith, room);
               from = λ h. rw place-next at (from h);
               to = λ h. rw (place-next crypt skip p n next (o + (length xs - i)) (omega arith), j) at (to h);
@@ -244,7 +266,8 @@ module _ (E D : Cipher) (d : Direction) (s : Scheme) (crypt skip : ℕ) (iv : Li
             rw (marked f, drop-append-le o (entryMarks f p n) (marks f next) (rw entry-length (omega arith)))
             (take-append-le m (drop o (entryMarks f p n)) (marks f next) (simp (length-drop, entry-length) (omega arith)))
 
-        all-marks : (f : ℕ → ℕ → Bool) → take (i + m) (drop x (marks f es)) ≡ take i (drop x (marks f es)) ++ take m (drop o (entryMarks f p n))
+        all-marks : (f : ℕ → ℕ → Bool)
+            → take (i + m) (drop x (marks f es)) ≡ take i (drop x (marks f es)) ++ take m (drop o (entryMarks f p n))
         all-marks f = rw (take-add i m (drop x (marks f es)), drop-drop i x (marks f es), part-marks f)
 
         -- what is left lies in the entries that follow
@@ -254,7 +277,14 @@ module _ (E D : Cipher) (d : Direction) (s : Scheme) (crypt skip : ℕ) (iv : Li
             let z : x + (i + m) ≡ x + i + m = omega arith in
             let j : o + (length xs - i) - (p + n) ≡ 0 + (length xs - (i + m)) = omega arith in
             record {
-              marked = λ f. rw (z, ← (drop-drop m (x + i) (marks f es)), marked f, drop-drop m o (entryMarks f p n ++ marks f next), y) (drop-at (entryMarks f p n) (marks f next) (p + n) (entry-length f));
+              marked = λ f. rw (
+                z,
+                ← (drop-drop m (x + i) (marks f es)),
+                marked f,
+                drop-drop m o (entryMarks f p n ++ marks f next),
+                y,
+              )
+                  (drop-at (entryMarks f p n) (marks f next) (p + n) (entry-length f));
               room = omega (arith, room);
               from = λ h. held-start crypt skip s next;
               to = λ h. rw (place-next crypt skip p n next (o + (length xs - i)) (omega arith), j) at (to h);
@@ -264,25 +294,30 @@ module _ (E D : Cipher) (d : Direction) (s : Scheme) (crypt skip : ℕ) (iv : Li
             → Walked (putMid i (i + m - i) ys z) b′ v′ (i + m) (k + 1) 0
         unfolding mask restartMask
         walk-turned v′ b′ z nz says =
-            let t : Passes E D d (modeOf s) iv (take m (drop o (entryMarks (isCiphered s crypt skip) p n))) (take m (drop o (entryMarks (restarts s) p n))) v b (take m (drop i xs)) v′ b′ z =
+            let t : Passes E D d (modeOf s) iv (take m (drop o (entryMarks (isCiphered s crypt skip) p n)))
+            (take m (drop o (entryMarks (restarts s) p n))) v b (take m (drop i xs)) v′ b′ z =
             rw sub-is at (rw sub-length at (says .passes)) in
             record {
               done = w .done ++ z;
-              filled = fill-part (w .filled) (i + m) (omega arith) (omega (arith, size)) z (w .done ++ z) (nz ∙ sub-length ∙ sym width) refl;
-              passes = rw (all-marks (isCiphered s crypt skip), all-marks (restarts s), take-add i m xs) (passes-join (w .passes) t);
+              filled = fill-part (w .filled) (i + m) (omega arith) (omega (arith, size)) z (w .done ++ z)
+                  (nz ∙ sub-length ∙ sym width) refl;
+              passes = rw (all-marks (isCiphered s crypt skip), all-marks (restarts s), take-add i m xs)
+                  (passes-join (w .passes) t);
               used = says .used;
               unused = says .unused;
               rest = walk-rest;
             }
 
 -- the walk goes on only where there is an entry left
-pub walk-entry : {s : Scheme} {crypt skip x m k o : ℕ} (cs ps : List ℕ) (n : ℕ) → Rest s crypt skip (entries cs ps n) x m k o → 1 ≤ m → k < n
+pub walk-entry : {s : Scheme} {crypt skip x m k o : ℕ} (cs ps : List ℕ) (n : ℕ) → Rest s crypt skip (entries cs ps n) x m k o
+    → 1 ≤ m → k < n
 unfolding total
 walk-entry {k = k} cs ps n r l = go (ltb k n) refl
   where
     go : (q : Bool) → ltb k n ≡ q → k < n
     go true q = ltb-true k n q
-    go false q = absurd (let e : drop k (entries cs ps n) ≡ [] = no-more cs ps n k (ltb-false k n q) in omega (arith, rw e at (r .room)))
+    go false q =
+        absurd (let e : drop k (entries cs ps n) ≡ [] = no-more cs ps n k (ltb-false k n q) in omega (arith, rw e at (r .room)))
 
 -- ---- a whole sample
 
@@ -292,7 +327,8 @@ module _ (crypt skip : ℕ) where
   held-end s [] = refl
   held-end s (e ∷ es) =
       let j : e .clear + (e .protected + total es) - (e .clear + e .protected) ≡ total es = omega arith in
-      rw (place-next crypt skip (e .clear) (e .protected) es (e .clear + (e .protected + total es)) (omega arith), j) (held-end s es)
+      rw (place-next crypt skip (e .clear) (e .protected) es (e .clear + (e .protected + total es)) (omega arith), j)
+      (held-end s es)
 
   held-no : (s : Scheme) (es : List Entry) (x : ℕ) → Held crypt skip s (place es x) ≡ 0 → heldAt crypt skip es s x ≡ 0
   unfolding heldAt
@@ -313,10 +349,6 @@ module _ (crypt skip : ℕ) where
         rank = refl;
       }
 
-pub whole-says : (E D : Cipher) → Sized E → Sized D → (d : Direction) (s : Scheme) (crypt skip : ℕ) (iv : List ℕ) → Bytes 16 iv → (es : List Entry) (xs : List ℕ) (u : ℕ) (c ys : List ℕ)
-    → Pattern s crypt skip → length xs ≡ total es → SampleSays E D d s crypt skip iv es 0 iv xs u c ys → ys ≡ whole E D iv crypt skip es d s xs
-whole-says E D sE sD d s crypt skip iv bytes es xs u c ys p l w = sym (ap (λ (t : Stepped). t .released) (w .fed)) ∙ machine-whole E D sE sD d iv bytes crypt skip es s (p .first) xs l
-
 -- ---- the entries of a map
 
 -- a map holds no more entries than it has places
@@ -329,7 +361,8 @@ entries-all [] ps (suc m) (suc n) h k = refl
 entries-all (c ∷ cs) ps zero n h k = absurd (omega arith)
 entries-all (c ∷ cs) ps (suc m) zero h k = absurd (omega arith)
 entries-all (c ∷ cs) [] (suc m) (suc n) h k = refl
-entries-all (c ∷ cs) (p ∷ ps) (suc m) (suc n) h k = ap (λ (es : List Entry). entry c p ∷ es) (entries-all cs ps m n (omega arith) (omega arith))
+entries-all (c ∷ cs) (p ∷ ps) (suc m) (suc n) h k =
+    ap (λ (es : List Entry). entry c p ∷ es) (entries-all cs ps m n (omega arith) (omega arith))
 
 pub entries-limit : (k : ℕ) (cs ps : List ℕ) (n : ℕ) → length cs ≡ k → entries cs ps (min n k) ≡ entries cs ps n
 entries-limit k cs ps n e = go (ltb n k) refl

@@ -223,10 +223,6 @@ module _ {E D : Cipher} (v : Inverse E D) {iv : List ℕ} (w : Bytes 16 iv) (cry
       → whole E D iv crypt skip es (back d) s (whole E D iv crypt skip es d s xs) ≡ xs
   whole-back s b = whole-undone s .undone b
 
-  -- bytes become as many bytes
-  pub whole-bytes : (s : Scheme) {n : ℕ} {xs : List ℕ} → Bytes n xs → Bytes n (whole E D iv crypt skip es d s xs)
-  whole-bytes s b = whole-undone s .keeps b
-
 module _ (E D : Cipher) (iv : List ℕ) (crypt skip : ℕ) (es : List Entry) (d : Direction) where
   whole-leaves : (s : Scheme) → Leaves (mask s crypt skip es) (whole E D iv crypt skip es d s)
   unfolding whole

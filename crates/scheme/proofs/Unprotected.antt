@@ -1,7 +1,7 @@
 -- A sample of clear bytes alone, such as that of an unprotected track: nothing is ciphered and nothing held.
 use mathlib.Core.Bool.{Bool, false}
 use mathlib.Core.List.{List, [], _∷_}
-use mathlib.Core.Path.{_≡_, refl, ap, _∙_}
+use mathlib.Core.Path.{_≡_, refl, _∙_}
 use Prim.Native.Nat.{ℕ, suc, _+_}
 use native.Mathlib.Nat.{add-zero}
 use native.Mathlib.Omega.{arith}
@@ -11,7 +11,7 @@ use Rattle.modes.specs.declared.Direction.{Direction}
 use Rattle.modes.specs.Modes.{Cipher}
 use Rattle.scheme.specs.declared.Scheme.{Scheme}
 use Rattle.scheme.specs.declared.Scheme.the-variants.{Cenc, Cbc1, Cens, Cbcs}
-use Rattle.scheme.specs.Layout.{Entry, entry, isCiphered, restarts, marks, mask, restartMask}
+use Rattle.scheme.specs.Layout.{entry, isCiphered, marks, mask}
 use Rattle.scheme.specs.WholeSample.{whole}
 use Rattle.scheme.specs.Machine.{Mode, plain, step, feed}
 use Rattle.scheme.specs.Held.{Place, Clear, place, inPlace, inBlock, heldAt}

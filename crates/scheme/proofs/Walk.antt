@@ -1,9 +1,9 @@
 -- What the walk over a sample's map says of a run, of a range's part and of an entry's part.
-use mathlib.Core.Path.{_≡_, refl, sym, ap, _∙_}
+use mathlib.Core.Path.{_≡_}
 use mathlib.Core.Bool.{Bool, true, false, cond}
-use mathlib.Core.List.{List, [], _∷_, _++_}
-use Prim.Native.Nat.{ℕ, zero, suc, _+_, _-_, _*_, _/_, _%_, _^_, _≤_, _<_}
-use lib.ListN.{length, getD, take, drop, replicate}
+use mathlib.Core.List.{List, _++_}
+use Prim.Native.Nat.{ℕ, _+_, _-_, _%_, _^_, _≤_, _<_}
+use lib.ListN.{length, take, drop, replicate}
 use Rattle.modes.specs.declared.Direction.{Direction}
 use Rattle.scheme.specs.declared.Scheme.{Scheme}
 use Rattle.scheme.specs.declared.Scheme.the-variants.{Cenc, Cbc1, Cens, Cbcs}
@@ -13,7 +13,7 @@ use Rattle.scheme.specs.Layout.{count}
 use Rattle.scheme.specs.Machine.{Mode, Counter, Chain, modeOf, feedSample}
 use Rattle.scheme.specs.Machine.{free}
 use Rattle.scheme.specs.Held.{heldAt}
-use Rattle.scheme.specs.Held.{Place, Clear, Inside, place}
+use Rattle.scheme.specs.Held.{Clear, Inside, place}
 use Rattle.scheme.proofs.Passes.{Passes, left}
 
 -- the scheme is one of the counter mode's
@@ -62,8 +62,10 @@ pub record RangeAsks (s : Scheme) (crypt skip n o m u : ℕ) : Type 0 where
   pub from : Free s crypt skip n o
   pub to : Free s crypt skip n (o + m)
 
-pub record RangeSays (E D : Cipher) (d : Direction) (s : Scheme) (crypt skip : ℕ) (iv : List ℕ) (n o u : ℕ) (c xs : List ℕ) (u′ : ℕ) (c′ ys : List ℕ) : Type 0 where
-  pub passes : Passes E D d (modeOf s) iv (take (length xs) (drop o (rangeMarks (isCiphered s crypt skip) n))) (take (length xs) (drop o (rangeMarks (restarts s) n))) u c xs u′ c′ ys
+pub record RangeSays (E D : Cipher) (d : Direction) (s : Scheme) (crypt skip : ℕ) (iv : List ℕ) (n o u : ℕ) (c xs : List ℕ)
+    (u′ : ℕ) (c′ ys : List ℕ) : Type 0 where
+  pub passes : Passes E D d (modeOf s) iv (take (length xs) (drop o (rangeMarks (isCiphered s crypt skip) n)))
+      (take (length xs) (drop o (rangeMarks (restarts s) n))) u c xs u′ c′ ys
   pub unused : modeOf s ≡ Chain → u′ ≡ 0
 
 -- the marks of an entry: its clear bytes, and its range
@@ -80,8 +82,10 @@ pub record EntryAsks (s : Scheme) (crypt skip a n x m u : ℕ) : Type 0 where
   pub from : Free s crypt skip n (x - a)
   pub to : Free s crypt skip n (x + m - a)
 
-pub record EntrySays (E D : Cipher) (d : Direction) (s : Scheme) (crypt skip : ℕ) (iv : List ℕ) (a n x u : ℕ) (c xs : List ℕ) (u′ : ℕ) (c′ ys : List ℕ) : Type 0 where
-  pub passes : Passes E D d (modeOf s) iv (take (length xs) (drop x (entryMarks (isCiphered s crypt skip) a n))) (take (length xs) (drop x (entryMarks (restarts s) a n))) u c xs u′ c′ ys
+pub record EntrySays (E D : Cipher) (d : Direction) (s : Scheme) (crypt skip : ℕ) (iv : List ℕ) (a n x u : ℕ) (c xs : List ℕ)
+    (u′ : ℕ) (c′ ys : List ℕ) : Type 0 where
+  pub passes : Passes E D d (modeOf s) iv (take (length xs) (drop x (entryMarks (isCiphered s crypt skip) a n)))
+      (take (length xs) (drop x (entryMarks (restarts s) a n))) u c xs u′ c′ ys
   pub used : u′ < 16
   pub unused : modeOf s ≡ Chain → u′ ≡ 0
 
@@ -94,7 +98,8 @@ pub record SampleAsks (s : Scheme) (crypt skip : ℕ) (es : List Entry) (x m u :
   pub rank : count (take x (mask s crypt skip es)) % 16 ≡ u
 
 -- the machine of Stream gives the part and the block, and as many bytes of the pad are used as the position calls for
-pub record SampleSays (E D : Cipher) (d : Direction) (s : Scheme) (crypt skip : ℕ) (iv : List ℕ) (es : List Entry) (x : ℕ) (c xs : List ℕ) (u′ : ℕ) (c′ ys : List ℕ) : Type 0 where
+pub record SampleSays (E D : Cipher) (d : Direction) (s : Scheme) (crypt skip : ℕ) (iv : List ℕ) (es : List Entry) (x : ℕ)
+    (c xs : List ℕ) (u′ : ℕ) (c′ ys : List ℕ) : Type 0 where
   pub fed : feedSample E D d s crypt skip iv es (free x c) xs ≡ left (x + length xs) c′ ys
   pub rank : count (take (x + length xs) (mask s crypt skip es)) % 16 ≡ u′
 
@@ -120,7 +125,8 @@ pub record FeedAsks (s : Scheme) (crypt skip k : ℕ) (es : List Entry) (p : ℕ
   pub low : length h ≤ p
   pub room : length h + length zs - heldAt crypt skip es s (p + length zs) ≤ m
 
-pub record FeedSays (E D : Cipher) (d : Direction) (s : Scheme) (crypt skip : ℕ) (iv : List ℕ) (es : List Entry) (p : ℕ) (c h zs out : List ℕ) (r : ℕ) (c′ h′ : List ℕ) (k : ℕ) (out′ : List ℕ) : Type 0 where
+pub record FeedSays (E D : Cipher) (d : Direction) (s : Scheme) (crypt skip : ℕ) (iv : List ℕ) (es : List Entry) (p : ℕ)
+    (c h zs out : List ℕ) (r : ℕ) (c′ h′ : List ℕ) (k : ℕ) (out′ : List ℕ) : Type 0 where
   pub fed : feedSample E D d s crypt skip iv es (record { position = p; block = c; held = h }) zs
       ≡ record { state = record { position = p + length zs; block = c′; held = take k h′ }; released = take r out′ }
   pub zeros : drop k h′ ≡ replicate (16 - k) 0

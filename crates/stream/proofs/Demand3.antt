@@ -21,10 +21,11 @@ use Rattle.scheme.specs.Part.{entriesOf, ciphered, heldUnder, feedUnder}
 use Rattle.scheme.proofs.Holding.{held-small}
 use Rattle.scheme.proofs.Under.{fed-released, fed-whole}
 use Rattle.sample.specs.Sample.{keyIn, sampleRows, cipheredBy, sampleAfter}
+use Rattle.sample.proofs.Accepted.{accepted-length, begins}
 use Rattle.stream.specs.declared.Stream.{Stream}
 use Rattle.stream.specs.Stream.{started, start, feedRows, feed, outputAfter, end}
 use Rattle.stream.specs.Demand3.{Call, Feeding, Ending, lent, Reply, reply, countAt, ending, replyAt, pieceAt, account, accepted, make, run, recordAfter, replies, released, Unchanged, heldFrom, pieces, Demand3}
-use Rattle.stream.proofs.Accepted.{rules, lengths, begins}
+use Rattle.stream.proofs.Accepted.{rules}
 use Rattle.stream.proofs.Reached.{Rules, fed, at, at-sum, Moves, moves}
 
 -- ---- A list of calls, from the record that the pieces a lead to.
@@ -138,7 +139,7 @@ module _ (d : Direction) (code box aux keys : List ℕ) (n : ℕ) (hb : (i : ℕ
     whole-is = rw (l, eq-eqb (answer (sampleRows code box aux keys n)) 0 accepts)
 
     adds-up : length xs ≡ total (entriesOf p m (length xs))
-    adds-up = rw l (sym (lengths code box aux keys n accepts))
+    adds-up = rw l (sym (accepted-length code box aux keys n accepts))
 
     begins-with : (rest : List ℕ) → xs ≡ a ++ rest
         → fed d p m n key iv a .released ≡ take (x - heldUnder p m n x) (sampleAfter d code box aux keys xs)

@@ -1,4 +1,4 @@
--- What feeding and ending answer depends on: not on key, KID or IV bytes, nor on the counter or chain, the held bytes or the piece's.
+-- What start, feeding and end answer depends on: not on key or IV bytes, nor on the counter or chain, the held bytes or the piece's.
 use mathlib.Core.Bool.{Bool, true, false, cond, not, _&&_}
 use mathlib.Core.List.{List, [], _∷_}
 use mathlib.Core.Path.{_≡_, refl, sym, ap, ap₂, _∙_}
@@ -8,14 +8,18 @@ use lib.Dec.{eqb}
 use lib.ListN.{length}
 use borrow.Author.Tests.{eqb-true, eqb-false, eq-eqb, ne-eqb}
 use Rattle.octets.specs.Answers.{answer}
+use Rattle.modes.specs.declared.Direction.{Direction}
 use Rattle.track.specs.declared.Parameters.{Parameters}
 use Rattle.track.specs.Track.{hasConstant, parameterRows, writeRows}
 use Rattle.track.proofs.Checking.{write-refused, write-done}
 use Rattle.track.proofs.Depends.{AlikeParameters, write-alike}
+use Rattle.track.proofs.Depends as track
 use Rattle.subsample.specs.declared.SubsampleMap.{SubsampleMap}
 use Rattle.scheme.specs.Part.{entriesOf, heldUnder}
+use Rattle.sample.specs.Sample.{sampleRows}
+use Rattle.sample.proofs.Depends.{AlikeInputs, boxes-alike, maps-alike, inputs-alike}
 use Rattle.stream.specs.declared.Stream.{Stream}
-use Rattle.stream.specs.Stream.{sound, withState, due, feedRows, fedBy, feed, endRows, end}
+use Rattle.stream.specs.Stream.{sound, idle, started, start, withState, due, feedRows, fedBy, feed, endRows, end}
 use Rattle.stream.specs.Demand3.{Call, Feeding, Ending, Reply, reply, make, run, replies}
 use Rattle.stream.proofs.Rules.{next-position, next-held, next-places, done-sound}
 
@@ -157,3 +161,62 @@ run-alike (feeding piece piece′ out out′ l e c) s =
     (run-alike c (stream-alike s piece piece′ l (length out) (length out′) e))
 run-alike (ending c) s =
     ap₂ (λ (y : Reply) (ys : List Reply). y ∷ ys) (ap (λ (n : ℕ). reply n 0) (end-alike (s .streams))) (run-alike c s)
+
+-- ---- From the start on.
+
+-- Two starts with inputs that differ at most in key and IV bytes, in either direction.
+module _ {box box′ aux aux′ keys keys′ : List ℕ} (s : AlikeInputs box box′ aux aux′ keys keys′) (d d′ : Direction) (code : List ℕ)
+    (n : ℕ) where
+  -- the same number
+  pub start-alike : start d code box aux keys n .number ≡ start d′ code box′ aux′ keys′ n .number
+  unfolding start
+  start-alike = inputs-alike s code n
+
+  started-alike : AlikeRecords (started d code box aux keys n) (started d′ code box′ aux′ keys′ n)
+  unfolding started
+  started-alike =
+      record {
+        streams = record {
+          parameters = track.parameters-alike (boxes-alike s) code;
+          length = refl;
+          map = maps-alike s code n;
+          position = refl;
+          held-count = refl;
+        };
+        left = refl;
+        right = refl;
+      }
+
+  -- and alike records; after a refusal both are idle
+  pub stream-started-alike : AlikeRecords (start d code box aux keys n .stream) (start d′ code box′ aux′ keys′ n .stream)
+  unfolding start
+  stream-started-alike = rw (← (inputs-alike s code n)) (go (eqb (answer (sampleRows code box aux keys n)) 0))
+    where
+      go : (b : Bool) → AlikeRecords (cond b (started d code box aux keys n) idle) (cond b (started d′ code box′ aux′ keys′ n) idle)
+      go true = started-alike
+      go false =
+          record {
+            streams = record {
+              parameters = record {
+                code = refl;
+                version = refl;
+                crypt = refl;
+                skip = refl;
+                protected = refl;
+                iv-size = refl;
+                constant = λ e. refl;
+              };
+              length = refl;
+              map = refl;
+              position = refl;
+              held-count = refl;
+            };
+            left = refl;
+            right = refl;
+          }
+
+  -- so the numbers and released counts of a whole run depend neither on key and IV bytes nor on what the pieces hold
+  pub answers-alike : {cs cs′ : List Call} → AlikeCalls cs cs′
+      → (start d code box aux keys n .number ≡ start d′ code box′ aux′ keys′ n .number)
+      × (replies (run (start d code box aux keys n .stream) cs) ≡ replies (run (start d′ code box′ aux′ keys′ n .stream) cs′))
+  answers-alike c = (start-alike, run-alike c stream-started-alike)

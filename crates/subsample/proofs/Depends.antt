@@ -1,7 +1,7 @@
 -- What the numbers depend on, and that accepted lengths add up.
-use mathlib.Core.Bool.{Bool, true, false}
+use mathlib.Core.Bool.{true, false}
 use mathlib.Core.List.{List, _∷_, _++_}
-use mathlib.Core.Path.{_≡_, refl, sym, ap, ap₂, _∙_}
+use mathlib.Core.Path.{_≡_, refl, ap, ap₂, _∙_}
 use Prim.Native.Nat.{ℕ, zero, suc, _+_, _*_, _≤_, _<_}
 use native.Mathlib.Omega.{arith}
 use lib.Dec.{eqb, ltb}
@@ -9,7 +9,7 @@ use lib.ListN.{length, getD}
 use borrow.Author.Tests.{eqb-true, eqb-false, lt-ltb, not-false}
 use Rattle.octets.specs.Answers.{answer}
 use Rattle.octets.specs.Bytes.{listOf, number}
-use Rattle.octets.proofs.Answers.{done-head, done-tail, join-done, join-refused}
+use Rattle.octets.proofs.Answers.{done-head, done-tail, join-alike}
 use Rattle.track.specs.declared.Parameters.{Parameters}
 use Rattle.track.specs.Track.{fields, readRows}
 use Rattle.track.proofs.Codes.{or-false-left, or-false-right}
@@ -25,9 +25,11 @@ pub record AlikeData (p q : Parameters) (a b : List ℕ) : Type 0 where
   pub size : length a ≡ length b
   pub after : (i : ℕ) → p .«iv_size» ≤ i → getD a i 0 ≡ getD b i 0
 
-listOf-alike : (n : ℕ) (f g : ℕ → ℕ) → ((i : ℕ) → f i ≡ g i) → listOf n f ≡ listOf n g
+pub listOf-alike : (n : ℕ) (f g : ℕ → ℕ) → ((i : ℕ) → i < n → f i ≡ g i) → listOf n f ≡ listOf n g
 listOf-alike zero f g h = refl
-listOf-alike (suc n) f g h = ap₂ (λ (x : ℕ) (l : List ℕ). x ∷ l) (h 0) (listOf-alike n (λ i. f (suc i)) (λ i. g (suc i)) (λ i. h (suc i)))
+listOf-alike (suc n) f g h =
+    ap₂ (λ (x : ℕ) (l : List ℕ). x ∷ l) (h 0 (omega arith))
+    (listOf-alike n (λ i. f (suc i)) (λ i. g (suc i)) (λ i l. h (suc i) (omega arith)))
 
 module _ {p q : Parameters} {a b : List ℕ} (s : AlikeData p q a b) where
   number-alike : (n at : ℕ) → p .«iv_size» ≤ at → number n a at ≡ number n b at
@@ -53,10 +55,10 @@ module _ {p q : Parameters} {a b : List ℕ} (s : AlikeData p q a b) where
   lengths-alike w k =
       ap (λ (n : ℕ). listOf n (λ i. number w a (p .«iv_size» + k + 6 * i))) entries-alike
       ∙ listOf-alike (entryCount q b) (λ i. number w a (p .«iv_size» + k + 6 * i)) (λ i. number w b (q .«iv_size» + k + 6 * i))
-      (λ i.
+      (λ i l.
       number-alike w (p .«iv_size» + k + 6 * i) (omega arith) ∙ ap (λ (v : ℕ). number w b (v + k + 6 * i)) (s .iv-size))
 
-  map-alike : mapRead p a ≡ mapRead q b
+  pub map-alike : mapRead p a ≡ mapRead q b
   unfolding mapRead
   map-alike = rw (lengths-alike 2 2, lengths-alike 4 4, entries-alike)
 
@@ -67,7 +69,7 @@ module _ {p q : Parameters} {a b : List ℕ} (s : AlikeData p q a b) where
 
 module _ (code : List ℕ) {x y : List ℕ} (s : Alike x y) (n : ℕ) (a b : List ℕ) (l : length a ≡ length b)
     (h : (i : ℕ) → getD x 15 0 ≤ i → getD a i 0 ≡ getD b i 0) where
-  fields-alike : AlikeData (fields code x) (fields code y) a b
+  pub fields-alike : AlikeData (fields code x) (fields code y) a b
   unfolding fields
   fields-alike =
       record {
@@ -81,21 +83,9 @@ module _ (code : List ℕ) {x y : List ℕ} (s : Alike x y) (n : ℕ) (a b : Lis
   -- the public reader's number depends neither on the KID nor on IV bytes
   pub reader-alike : answer (readRows code x ++ auxiliaryRows (fields code x) n a)
       ≡ answer (readRows code y ++ auxiliaryRows (fields code y) n b)
-  reader-alike = go (eqb (answer (readRows code x)) 0) refl
-    where
-      box : answer (readRows code x) ≡ answer (readRows code y)
-      box = read-alike s code
-
-      go : (t : Bool) → eqb (answer (readRows code x)) 0 ≡ t
-          → answer (readRows code x ++ auxiliaryRows (fields code x) n a) ≡ answer (readRows code y ++ auxiliaryRows (fields code y) n b)
-      go true e =
-          let z = eqb-true (answer (readRows code x)) 0 e in
-          join-done (read-refusals code x) (auxiliaryRows (fields code x) n a) z ∙ auxiliary-alike fields-alike n
-          ∙ sym (join-done (read-refusals code y) (auxiliaryRows (fields code y) n b) (sym box ∙ z))
-      go false e =
-          let z = eqb-false (answer (readRows code x)) 0 e in
-          join-refused (readRows code x) (auxiliaryRows (fields code x) n a) z ∙ box
-          ∙ sym (join-refused (readRows code y) (auxiliaryRows (fields code y) n b) (λ k. z (box ∙ k)))
+  reader-alike =
+      join-alike (read-refusals code x) (read-refusals code y) (auxiliaryRows (fields code x) n a)
+      (auxiliaryRows (fields code y) n b) (read-alike s code) (auxiliary-alike fields-alike n)
 
 -- where entries are written and accepted their lengths add up to the sample's
 module _ (p : Parameters) (aux : List ℕ) (w : written p aux ≡ true) where

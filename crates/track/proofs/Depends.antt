@@ -1,7 +1,7 @@
 -- What the numbers depend on: not on the KID, and not on IV bytes but for those of a constant IV where none is called for.
 use mathlib.Core.Bool.{Bool, true, false, cond, _||_}
 use mathlib.Core.List.{List}
-use mathlib.Core.Path.{_≡_, refl, sym, ap₂, _∙_}
+use mathlib.Core.Path.{_≡_, refl, sym, ap, ap₂, _∙_}
 use Prim.Native.Nat.{ℕ, zero, suc, _+_, _*_, _/_, _%_, _≤_, _<_}
 use native.Mathlib.Omega.{arith}
 use lib.ListN.{length, getD, take, drop, length-take, length-drop}
@@ -82,6 +82,20 @@ pub record AlikeParameters (p q : Parameters) : Type 0 where
   pub protected : p .protected ≡ q .protected
   pub iv-size : p .«iv_size» ≡ q .«iv_size»
   pub constant : hasConstant (p .protected) (p .«iv_size») ≡ false → p .«constant_iv» .0 ≡ q .«constant_iv» .0
+
+-- the parameters read of two such boxes
+pub parameters-alike : {a b : List ℕ} → Alike a b → (code : List ℕ) → AlikeParameters (fields code a) (fields code b)
+unfolding fields
+parameters-alike {a} {b} s code =
+    record {
+      code = refl;
+      version = s .front 8 (omega arith);
+      crypt = ap (λ (n : ℕ). n / 16) (s .front 13 (omega arith));
+      skip = ap (λ (n : ℕ). n % 16) (s .front 13 (omega arith));
+      protected = s .front 14 (omega arith);
+      iv-size = s .front 15 (omega arith);
+      constant = λ e. rw (e, sym (s .front 14 (omega arith)), sym (s .front 15 (omega arith)), e);
+    }
 
 module _ (p q : Parameters) (s : AlikeParameters p q) where
   constant-alike : (hasConstant (p .protected) (p .«iv_size») || same (p .«constant_iv» .0) zeros)

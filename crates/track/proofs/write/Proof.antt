@@ -3,7 +3,7 @@ use Prim.Native.Nat.{_≤_}
 use lib.ListN.{length}
 use borrow.Author.Tests.{ne-eqb}
 use Rattle.octets.specs.Answers.{answer}
-use Rattle.track.specs.Track.{boxLength, parameterRows, writeRows, writeBox, afterWriting}
+use Rattle.track.specs.Track.{boxLength, parameterRows, writeBox, afterWriting}
 use Rattle.track.proofs.Checking.{check-allowed, write-refused, write-short, write-done}
 use borrow.Author.Needs.{needs}
 use native.Mathlib.Omega.{arith}

@@ -1,4 +1,4 @@
-use mathlib.Core.Path.{sym, _∙_}
+use mathlib.Core.Path.{sym}
 use borrow.Author.Tests.{eq-eqb, ne-eqb}
 use Rattle.scheme.specs.Part.{heldUnder, entriesOf}
 use Rattle.scheme.proofs.Unprotected.{held-clear}

@@ -1,4 +1,4 @@
-use mathlib.Core.Path.{_≡_, sym, ap, _∙_}
+use mathlib.Core.Path.{_≡_, sym}
 use native.Mathlib.Nat.{add-zero, zero-add}
 use lib.ListN.{length}
 use borrow.Author.Tests.{eq-eqb, ne-eqb}
