@@ -200,22 +200,3 @@ module _ (t : Stream) (ok : sound t ≡ true) (w : Places t) (piece : List ℕ) 
       }
       ≡ withState t (fedBy t piece .state)
   released-stream rest e = rw (fed-is, size-rest, e)
-
-  -- and the output: the due bytes laid in front and ciphered there
-  module _ (out : List ℕ) (fits : due t (length piece) ≤ length out) where
-    abbrev k : ℕ
-    k = due t (length piece)
-
-    zero : k - 0 ≡ k
-    zero = omega arith
-
-    -- what is laid there
-    pub laid-is : (z : List ℕ) → z ≡ take (length (take (k - 0) out)) all → z ≡ part
-    laid-is z e = e ∙ rw (zero, length-take-le k out fits)
-
-    pub laid-part : (z : List ℕ) → z ≡ part → take (k - 0) (putMid 0 (k - 0) out z) ≡ part
-    laid-part z e = rw (zero, e) (take-at part (drop k out) k size-part)
-
-    pub output-is : (z y : List ℕ) → z ≡ part → y ≡ T .released → length y ≡ k
-        → putMid 0 (k - 0) (putMid 0 (k - 0) out z) y ≡ fedBy t piece .released ++ drop k out
-    output-is z y e f s = rw (zero, e, fed-is, f, drop-at part (drop k out) k size-part)

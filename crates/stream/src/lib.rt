@@ -3,11 +3,10 @@ mod bytes;
 pub mod refusal;
 
 ghost use mathlib.Core.Bool.{true, _||_};
-ghost use mathlib.Core.List.{_++_};
 ghost use mathlib.Core.Path.{_≡_};
 ghost use Prim.Native.Nat.{_+_, _≤_};
 ghost use lib.Dec.{eqb};
-ghost use lib.ListN.{length, drop};
+ghost use lib.ListN.{length};
 ghost use Rattle.stream.specs.Stream as spec;
 use aes::Key;
 use modes::Direction;
@@ -140,12 +139,12 @@ fn sound(stream: Stream) -> bool
     stream.held_count == position::held_at(parameters, map, stream.length, stream.position)
 }
 
-// Puts the first `due` bytes of the held ones and the piece into the output and ciphers them there; the rest is held.
-fn release(stream: Stream, piece: &[u8], keep: usize, due: usize, out: &mut [u8]) -> Stream
+// Fills the output with the first of the held bytes and the piece, as many as are due, and ciphers them there; the rest is held.
+fn release(stream: Stream, piece: &[u8], keep: usize, out: &mut [u8]) -> Stream
     requires { ⌜ (spec.sound stream ≡ true) × (stream .position + length (now piece) ≤ stream .length)
-        × (keep ≡ spec.heldBy stream (stream .position + length (now piece))) × (due ≡ spec.due stream (length (now piece))) × (due ≤ length (now out)) ⌝ }
+        × (keep ≡ spec.heldBy stream (stream .position + length (now piece))) × (length (now out) ≡ spec.due stream (length (now piece))) ⌝ }
     ensures { λ r. ⌜ (r ≡ spec.withState stream (spec.fedBy stream (now (piece .entry)) .state))
-        × (now (out .exit) ≡ spec.fedBy stream (now (piece .entry)) .released ++ drop due (now (out .entry))) ⌝ }
+        × (now (out .exit) ≡ spec.fedBy stream (now (piece .entry)) .released) ⌝ }
 {
     let direction = stream.direction;
     let parameters = stream.parameters;
@@ -154,8 +153,8 @@ fn release(stream: Stream, piece: &[u8], keep: usize, due: usize, out: &mut [u8]
     let block = stream.block;
     let held = stream.held;
     let count = stream.held_count;
-    let rest = bytes::rest(&held[0..count], piece, due, keep);
-    bytes::join(&held[0..count], piece, &mut out[0..due]);
+    let rest = bytes::rest(&held[0..count], piece, out.len(), keep);
+    bytes::join(&held[0..count], piece, out);
     let next = part::transform(
         key.round_keys(),
         direction,
@@ -164,7 +163,7 @@ fn release(stream: Stream, piece: &[u8], keep: usize, due: usize, out: &mut [u8]
         stream.length,
         stream.position - count,
         block,
-        &mut out[0..due],
+        out,
     );
     Stream {
         direction,
@@ -215,7 +214,7 @@ pub fn feed(stream: Stream, piece: &[u8], out: &mut [u8]) -> Fed
     if out.len() < due {
         return refused(refusal::OUTPUT, stream);
     }
-    let next = release(stream, piece, keep, due, out);
+    let next = release(stream, piece, keep, &mut out[0..due]);
     Fed {
         number: DONE,
         released: due,
