@@ -11,7 +11,6 @@ pub mod EntryParts
 pub mod SampleParts
 pub mod Ciphering
 pub mod Locating
-pub mod Feeding
 pub mod Undone
 pub mod Counters
 pub mod Unprotected

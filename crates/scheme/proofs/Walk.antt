@@ -114,20 +114,3 @@ isCenc Cenc = true
 isCenc Cbc1 = false
 isCenc Cens = false
 isCenc Cbcs = false
-
--- a piece zs at position p, with the held bytes h before it, and room for m bytes
-pub record FeedAsks (s : Scheme) (crypt skip k : ℕ) (es : List Entry) (p : ℕ) (h zs : List ℕ) (m : ℕ) : Type 0 where
-  pub few : k ≤ 64
-  pub pattern : Pattern s crypt skip
-  pub held : length h ≡ heldAt crypt skip es s p
-  pub within : p + length zs ≤ total es
-  pub small : p + length zs ≤ 2 ^ 24
-  pub low : length h ≤ p
-  pub room : length h + length zs - heldAt crypt skip es s (p + length zs) ≤ m
-
-pub record FeedSays (E D : Cipher) (d : Direction) (s : Scheme) (crypt skip : ℕ) (iv : List ℕ) (es : List Entry) (p : ℕ)
-    (c h zs out : List ℕ) (r : ℕ) (c′ h′ : List ℕ) (k : ℕ) (out′ : List ℕ) : Type 0 where
-  pub fed : feedSample E D d s crypt skip iv es (record { position = p; block = c; held = h }) zs
-      ≡ record { state = record { position = p + length zs; block = c′; held = take k h′ }; released = take r out′ }
-  pub zeros : drop k h′ ≡ replicate (16 - k) 0
-  pub rest : drop r out′ ≡ drop r out

@@ -3,6 +3,7 @@ pub mod Rules
 pub mod Joining
 pub mod Starting
 pub mod Releasing
+pub mod Feeding
 pub mod Accepted
 pub mod Demand3
 pub mod Depends

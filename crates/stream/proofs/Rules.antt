@@ -59,8 +59,12 @@ module _ (t : Stream) (ok : sound t ≡ true) where
   pub held-below : t .«held_count» ≤ t .position
   unfolding heldUnder
   held-below =
-      omega (arith, held-is, held-low (t .parameters .crypt) (t .parameters .skip) (schemeOf (t .parameters .code))
-      (entriesOf (t .parameters) (t .map) (t .length)) (t .position))
+      omega (
+        arith,
+        held-is,
+        held-low (t .parameters .crypt) (t .parameters .skip) (schemeOf (t .parameters .code))
+            (entriesOf (t .parameters) (t .map) (t .length)) (t .position),
+      )
 
   pub position-within : t .position ≤ t .length
   unfolding sound
@@ -129,7 +133,7 @@ feed-sound t piece room w ok = go (eqb (answer (feedRows t (length piece) room))
     go true false e = ok
     go false c e = ok
 
-none-due : (t : Stream) → sound t ≡ true → due t 0 ≡ 0
+pub none-due : (t : Stream) → sound t ≡ true → due t 0 ≡ 0
 unfolding due
 none-due t ok = rw (held-is t ok, add-zero (t .position)) (omega arith)
 

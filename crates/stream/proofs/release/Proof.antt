@@ -58,9 +58,10 @@ returns c =
     let z : t .«held_count» - 0 ≡ t .«held_count» = omega arith in
     let e : c .before .before .before .before .before .before .before .before .before .join .last .1 .1 .0 ≡ take (due t (length piece)) (take (t .«held_count») (t .held) ++ piece) = rw (z, s .pre .3) at (c .before .before .before .before .before .before .before .before .before .join .ensures) in
     let f = rw (c .before .before .before .before .before .before .round-keys .ensures, e) at (c .before .before .before .transform .ensures) in
-    let r = rw (z, s .pre .3, s .pre .2) at (c .before .before .before .before .before .before .before .before .before .before .before .before .before .rest .ensures) in
-    (rw (f .1, s .pre .2) (released-stream t (s .pre .0) (places s) piece (s .pre .1) (c .before .before .before .before .before .before .before .before .before .before .before .before .before .rest .result) r),
-    f .0 ∙ sym (ap (λ (f : Stepped). f .released) (fed-is t (s .pre .0) (places s) piece (s .pre .1))))
+    let r = rw (z, s .pre .3, s .pre .2) at (c .before .before .before .before .before .before .before .before .before .before .before .before .before .rest .ensures) in (
+      rw (f .1, s .pre .2) (released-stream t (s .pre .0) (places s) piece (s .pre .1) (c .before .before .before .before .before .before .before .before .before .before .before .before .before .rest .result) r),
+      f .0 ∙ sym (ap (λ (f : Stepped). f .released) (fed-is t (s .pre .0) (places s) piece (s .pre .1))),
+    )
 
 pub release-spec : {M : Type 1} → statement M
 release-spec =
