@@ -6,8 +6,9 @@ use Prim.Native.Nat.{ℕ, _+_, _-_, _≤_, _<_}
 use native.Mathlib.Omega.{arith}
 use lib.Dec.{ltb}
 use lib.ListN.{length, drop}
-use borrow.Author.Tests.{lt-ltb, le-ltb, ne-eqb}
+use borrow.Author.Tests.{lt-ltb, le-ltb, ltb-false, ne-eqb}
 use Rattle.octets.specs.Answers.{answer}
+use Rattle.octets.proofs.Answers.{done-head, done-tail}
 use Rattle.scheme.specs.Machine.{feed as feedMachine, feedSample}
 use Rattle.scheme.specs.Part.{feedUnder}
 use Rattle.stream.specs.declared.Stream.{Stream}
@@ -72,3 +73,11 @@ module _ (t : Stream) (piece out : List ℕ) where
           let r = le-ltb (length out) (due t (length piece)) h in
           let z = ne-eqb (length piece) 0 n in
           (rw (s, within, r, z), rw (s, within, r))
+
+-- no more is released than the output has room for
+pub released-fits : (t : Stream) (piece : List ℕ) (room : ℕ) → feed t piece room .number ≡ 0 → feed t piece room .released ≤ room
+unfolding feed feedRows
+released-fits t piece room h =
+    rw h
+    (ltb-false room (due t (length piece))
+    (done-head 15 _ _ (omega arith) (done-tail 14 _ _ (omega arith) (done-tail 13 _ _ (omega arith) h))))
