@@ -1,15 +1,32 @@
 //! Times the library beside the second program on the same bytes: both sides in turn, medians of several rounds.
 
-use second::sample;
+use second::sample::{self, Direction};
+use second::stream;
 use second::track::{self, Parameters};
 use std::time::Instant;
 
 const SIZE: usize = 16 << 20;
+const PIECE: usize = 1400;
 const ROUNDS: usize = 11;
 
 extern "C" {
     fn ecb_encipher(key: *const u8, key_len: usize, data: *mut u8, data_len: usize);
     fn ecb_decipher(key: *const u8, key_len: usize, data: *mut u8, data_len: usize);
+    fn pieces_open(
+        scheme: *const u8,
+        scheme_len: usize,
+        track_box: *const u8,
+        box_len: usize,
+        auxiliary: *const u8,
+        auxiliary_len: usize,
+        key_record: *const u8,
+        key_record_len: usize,
+        size: usize,
+        data: *const u8,
+        data_len: usize,
+        out: *mut u8,
+        out_len: usize,
+    ) -> u8;
 }
 
 fn library_encipher(key: &[u8; 16], data: &mut [u8]) {
@@ -86,6 +103,62 @@ impl Track {
     }
 }
 
+impl Track {
+    /// The library's pieces, from one buffer into another.
+    fn library_pieces(&self, auxiliary: &[u8], data: &[u8], out: &mut [u8]) -> u8 {
+        // The ranges are borrowed by Rust's rules, so none overlaps the output.
+        unsafe {
+            pieces_open(
+                self.code.as_ptr(),
+                self.code.len(),
+                self.track_box.as_ptr(),
+                self.track_box.len(),
+                auxiliary.as_ptr(),
+                auxiliary.len(),
+                self.key_record.as_ptr(),
+                self.key_record.len(),
+                PIECE,
+                data.as_ptr(),
+                data.len(),
+                out.as_mut_ptr(),
+                out.len(),
+            )
+        }
+    }
+
+    /// The second program's.
+    fn second_pieces(&self, auxiliary: &[u8], data: &[u8], out: &mut [u8]) -> u8 {
+        let length = data.len() as u64;
+        let (number, mut record) = stream::start(
+            Direction::Open,
+            self.code,
+            &self.track_box,
+            auxiliary,
+            &self.key_record,
+            length,
+        );
+        assert_eq!(number, 0);
+        let mut done = 0;
+        for piece in data.chunks(PIECE) {
+            let (number, released) = stream::feed(&mut record, piece, &mut out[done..]);
+            assert_eq!(number, 0);
+            done += released;
+        }
+        stream::end(&record)
+    }
+
+    /// A row for opening the sample in pieces.
+    fn row_of_pieces(&self, name: &str) {
+        let auxiliary = self.auxiliary(0);
+        let data: Vec<u8> = (0..SIZE).map(|i| (i * 7 % 251) as u8).collect();
+        row(
+            name,
+            |out| assert_eq!(self.library_pieces(&auxiliary, &data, out), 0),
+            |out| assert_eq!(self.second_pieces(&auxiliary, &data, out), 0),
+        );
+    }
+}
+
 /// Milliseconds of one call.
 fn time(call: impl FnOnce()) -> f64 {
     let start = Instant::now();
@@ -135,4 +208,6 @@ fn main() {
     cenc.row("sample opened, cenc, 64 entries", 64);
     cbcs.row("sample opened, cbcs 1:9", 0);
     cbcs.row("sample opened, cbcs 1:9, 64 entries", 64);
+    cenc.row_of_pieces("pieces of 1,400 bytes, cenc, by value");
+    cbcs.row_of_pieces("pieces of 1,400 bytes, cbcs 1:9, by value");
 }
