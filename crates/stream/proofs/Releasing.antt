@@ -1,36 +1,32 @@
 -- What a feeding makes of the held bytes and the piece: the transform of those that are due is what the machine releases.
-use mathlib.Core.Bool.{Bool, true, false, _&&_}
+use mathlib.Core.Bool.{Bool, true, false}
 use mathlib.Core.List.{List, [], _∷_, _++_}
 use mathlib.Core.Path.{_≡_, refl, sym, ap, _∙_}
 use Prim.Native.Nat.{ℕ, _+_, _-_, _%_, _≤_}
 use native.Mathlib.Omega.{arith}
-use lib.Dec.{eqb, leb}
+use lib.Dec.{eqb}
 use lib.ListN.{length, take, drop, replicate, length-append, length-drop}
-use lib.Seq.{length-take-le, take-at, drop-at}
+use lib.Seq.{length-take-le}
 use borrow.Author.Tests.{eqb-true}
-use borrow.Rule.Slice.PartMut.{putMid}
-use Rattle.octets.specs.Answers.{answer}
-use Rattle.octets.proofs.Bytes.{&&-left, &&-right}
 use Rattle.aes.specs.Block.{roundKeys, encipher, decipher, encipher-length, decipher-length}
 use Rattle.modes.specs.Modes.{Cipher}
 use Rattle.track.specs.declared.Parameters.{Parameters}
-use Rattle.track.specs.Track.{parameterRows}
 use Rattle.track.proofs.Checking.{check-known, check-allowed}
 use Rattle.subsample.specs.declared.SubsampleMap.{SubsampleMap}
-use Rattle.subsample.specs.Auxiliary.{limit, longest, mapRows}
+use Rattle.subsample.specs.Auxiliary.{limit}
 use Rattle.scheme.specs.declared.Scheme.{Scheme}
 use Rattle.scheme.specs.Layout.{schemeOf, Entry, total, mask, count}
-use Rattle.scheme.specs.Machine.{State, Stepped, free}
+use Rattle.scheme.specs.Machine.{Stepped, free}
 use Rattle.scheme.specs.Held.{heldAt}
-use Rattle.scheme.specs.Part.{protectedEntries, entriesOf, heldUnder, fits, feedUnder, transformed}
+use Rattle.scheme.specs.Part.{entriesOf, heldUnder, fits, feedUnder, transformed}
 use Rattle.scheme.proofs.Passes.{left}
 use Rattle.scheme.proofs.Walk.{SampleAsks}
 use Rattle.scheme.proofs.Allowed.{allowed-pattern, protected-total}
-use Rattle.scheme.proofs.Under.{clear-fed, clear-held}
+use Rattle.scheme.proofs.Under.{clear-fed}
 use Rattle.scheme.proofs.Fitting.{protected-entries, asks-fits, transformed-clear}
 use Rattle.scheme.proofs.Holding.{held-few, piece-says, piece-asks}
 use Rattle.stream.specs.declared.Stream.{Stream}
-use Rattle.stream.specs.Stream.{heldBy, sound, stateOf, withState, due, fedBy}
+use Rattle.stream.specs.Stream.{heldBy, sound, withState, due, fedBy}
 use Rattle.stream.proofs.Reached.{Rules, from-position, from-held}
 use Rattle.stream.proofs.Rules.{held-is, held-fits, sound-rules}
 

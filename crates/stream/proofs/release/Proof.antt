@@ -1,8 +1,8 @@
 -- the places of the record's arrays
 use mathlib.Core.List.{_++_}
 use mathlib.Core.Path.{_≡_, sym, ap, _∙_}
-use Prim.Native.Nat.{_+_, _-_, _≤_}
-use lib.ListN.{length, take, drop}
+use Prim.Native.Nat.{_+_, _-_}
+use lib.ListN.{length, take}
 use lib.Seq.{length-take-le}
 use Rattle.scheme.specs.Machine.{Stepped}
 use Rattle.stream.specs.Stream.{due}

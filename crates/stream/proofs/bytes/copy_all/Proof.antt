@@ -1,4 +1,4 @@
-use mathlib.Core.Path.{sym, _∙_}
+use mathlib.Core.Path.{_∙_}
 use Rattle.octets.proofs.Bytes.{placed-whole}
 use borrow.Author.Needs.{needs}
 use Rattle.stream.proofs.bytes.copy_all.Statement.{statement}
