@@ -4,6 +4,7 @@ use crate::boxes;
 use crate::output;
 use crate::output::Buffer;
 use crate::samples;
+use crate::streams;
 use crate::words;
 
 // As many bytes as a line can hold.
@@ -32,6 +33,12 @@ pub(crate) fn answer(
     }
     if octets::same(kind, b"open") {
         return samples::open(line, bytes, lent, out, at);
+    }
+    if octets::same(kind, b"stream") {
+        return streams::declared(line, bytes, lent, out, at);
+    }
+    if octets::same(kind, b"record") {
+        return streams::given(line, bytes, lent, out, at);
     }
     output::malformed(out, at)
 }

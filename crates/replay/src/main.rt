@@ -3,7 +3,10 @@ mod auxiliary;
 mod boxes;
 mod calls;
 mod output;
+mod records;
+mod replies;
 mod samples;
+mod streams;
 mod values;
 mod words;
 

@@ -47,3 +47,10 @@ pub(crate) fn rest(line: &[u8], place: usize) -> &[u8] {
     let from = start(line, place);
     &line[from..]
 }
+
+// The line past a word: its next words, with a space before each.
+pub(crate) fn after(line: &[u8], place: usize) -> &[u8] {
+    let from = start(line, place);
+    let end = find(line, from, b' ');
+    &line[end..]
+}
