@@ -8,3 +8,4 @@ pub mod Accepted
 pub mod Demand3
 pub mod Depends
 pub mod Samples
+pub mod Lent

@@ -1,5 +1,6 @@
 // A sample in pieces (document 01, "Pieces").
 mod bytes;
+pub mod in_place;
 pub mod refusal;
 
 ghost use mathlib.Core.Bool.{true, _||_};
