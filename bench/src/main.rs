@@ -21,6 +21,7 @@ extern "C" {
         auxiliary_len: usize,
         key_record: *const u8,
         key_record_len: usize,
+        in_place: bool,
         size: usize,
         data: *const u8,
         data_len: usize,
@@ -105,7 +106,7 @@ impl Track {
 
 impl Track {
     /// The library's pieces, from one buffer into another.
-    fn library_pieces(&self, auxiliary: &[u8], data: &[u8], out: &mut [u8]) -> u8 {
+    fn library_pieces(&self, in_place: bool, auxiliary: &[u8], data: &[u8], out: &mut [u8]) -> u8 {
         // The ranges are borrowed by Rust's rules, so none overlaps the output.
         unsafe {
             pieces_open(
@@ -117,6 +118,7 @@ impl Track {
                 auxiliary.len(),
                 self.key_record.as_ptr(),
                 self.key_record.len(),
+                in_place,
                 PIECE,
                 data.as_ptr(),
                 data.len(),
@@ -148,12 +150,12 @@ impl Track {
     }
 
     /// A row for opening the sample in pieces.
-    fn row_of_pieces(&self, name: &str) {
+    fn row_of_pieces(&self, name: &str, in_place: bool) {
         let auxiliary = self.auxiliary(0);
         let data: Vec<u8> = (0..SIZE).map(|i| (i * 7 % 251) as u8).collect();
         row(
             name,
-            |out| assert_eq!(self.library_pieces(&auxiliary, &data, out), 0),
+            |out| assert_eq!(self.library_pieces(in_place, &auxiliary, &data, out), 0),
             |out| assert_eq!(self.second_pieces(&auxiliary, &data, out), 0),
         );
     }
@@ -208,6 +210,8 @@ fn main() {
     cenc.row("sample opened, cenc, 64 entries", 64);
     cbcs.row("sample opened, cbcs 1:9", 0);
     cbcs.row("sample opened, cbcs 1:9, 64 entries", 64);
-    cenc.row_of_pieces("pieces of 1,400 bytes, cenc, by value");
-    cbcs.row_of_pieces("pieces of 1,400 bytes, cbcs 1:9, by value");
+    cenc.row_of_pieces("pieces of 1,400 bytes, cenc, by value", false);
+    cenc.row_of_pieces("pieces of 1,400 bytes, cenc, in place", true);
+    cbcs.row_of_pieces("pieces of 1,400 bytes, cbcs 1:9, by value", false);
+    cbcs.row_of_pieces("pieces of 1,400 bytes, cbcs 1:9, in place", true);
 }

@@ -2,8 +2,11 @@
 ghost use mathlib.Core.Path.{_≡_};
 ghost use Prim.Native.Nat.{_≤_, min};
 ghost use lib.ListN.{length};
+ghost use Rattle.stream.specs.Stream as spec;
 use modes::Direction;
+use stream::Fed;
 use stream::Stream;
+use stream::in_place;
 use track::refusal::DONE;
 
 fn least(a: usize, b: usize) -> usize
@@ -18,8 +21,19 @@ fn at_least_one(n: usize) -> usize
     if n == 0 { 1 } else { n }
 }
 
+// Feeds a record by value, or one that is changed where it lies.
+fn feed(in_place: bool, stream: Stream, piece: &[u8], out: &mut [u8]) -> Fed
+    ensures { λ r. ⌜ (r ≡ spec.feed stream (now (piece .entry)) (length (now (out .entry)))) × (length (now (out .exit)) ≡ length (now (out .entry))) ⌝ }
+{
+    if in_place {
+        in_place::feed_lent(stream, piece, out)
+    } else {
+        stream::feed(stream, piece, out)
+    }
+}
+
 // Feeds a stream with pieces of `size` bytes and ends it; answers the first refusal.
-fn feed_all(first: Stream, size: usize, data: &[u8], out: &mut [u8]) -> u8
+fn feed_all(in_place: bool, first: Stream, size: usize, data: &[u8], out: &mut [u8]) -> u8
     requires { ⌜ 1 ≤ size ⌝ }
 {
     let mut stream = first;
@@ -27,7 +41,7 @@ fn feed_all(first: Stream, size: usize, data: &[u8], out: &mut [u8]) -> u8
     let mut done = 0;
     while at < data.len() {
         let end = at + least(size, data.len() - at);
-        let fed = stream::feed(stream, &data[at..end], &mut out[done..]);
+        let fed = feed(in_place, stream, &data[at..end], &mut out[done..]);
         if fed.number != DONE {
             return fed.number;
         }
@@ -39,13 +53,14 @@ fn feed_all(first: Stream, size: usize, data: &[u8], out: &mut [u8]) -> u8
     stream::end(stream).number
 }
 
-// Opens a sample in pieces of `size` bytes, at least one, into an output; answers 0 or the first refusal.
+// Opens a sample in pieces of `size` bytes, at least one, into an output, by value or in place; answers 0 or the first refusal.
 #[no_mangle]
 pub extern "C" fn pieces_open(
     scheme: &[u8],
     track_box: &[u8],
     auxiliary: &[u8],
     key_record: &[u8],
+    in_place: bool,
     size: usize,
     data: &[u8],
     out: &mut [u8],
@@ -64,5 +79,5 @@ pub extern "C" fn pieces_open(
         return started.number;
     }
     let stream = started.stream;
-    feed_all(stream, at_least_one(size), data, out)
+    feed_all(in_place, stream, at_least_one(size), data, out)
 }

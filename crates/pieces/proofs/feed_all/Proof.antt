@@ -10,10 +10,10 @@ use Rattle.pieces.proofs.feed_all.Statement.{statement}
 use Rattle.pieces.proofs.feed_all.Tie as tie
 
 abbrev Inv-loop : tie.InvT-loop
-Inv-loop size «data» out₀ stream₀ at₀ done₀ out stream at done = (length out ≡ length out₀) × (done ≤ length out₀) × (at ≤ length «data»)
+Inv-loop in-place size «data» out₀ stream₀ at₀ done₀ out stream at done = (length out ≡ length out₀) × (done ≤ length out₀) × (at ≤ length «data»)
 
 abbrev μ-loop : tie.MeasureT-loop
-μ-loop size «data» out₀ stream₀ at₀ done₀ out stream at done = length «data» - at
+μ-loop in-place size «data» out₀ stream₀ at₀ done₀ out stream at done = length «data» - at
 
 short : (s : tie.Start Inv-loop μ-loop) → length (s .args .out .now) < 2 ^ 64
 short s = search needs
@@ -47,7 +47,7 @@ part-feed-end-2 c = omega (arith, c .before .before .before .loop .inv .0, c .be
 
 same-length : tie.Need-same-length Inv-loop μ-loop
 same-length c =
-    length-kept (c .before .before .before .before .before .before .before .before .before .loop .out) (c .before .before .before .before .feed .last .1 .1 .0) (c .before .before .before .before .before .before .before .before .before .loop .done) (omega (arith, c .before .before .before .before .before .before .before .before .before .loop .inv .0, c .before .before .before .before .before .before .before .before .before .loop .inv .1)) (c .before .before .before .before .feed .kept .1 .1 .0) ∙ c .before .before .before .before .before .before .before .before .before .loop .inv .0
+    length-kept (c .before .before .before .before .before .before .before .before .before .loop .out) (c .before .before .before .before .feed .last .1 .1 .1 .0) (c .before .before .before .before .before .before .before .before .before .loop .done) (omega (arith, c .before .before .before .before .before .before .before .before .before .loop .inv .0, c .before .before .before .before .before .before .before .before .before .loop .inv .1)) (c .before .before .before .before .feed .kept .1 .1 .1 .0) ∙ c .before .before .before .before .before .before .before .before .before .loop .inv .0
 
 add-done : tie.Need-add-done Inv-loop μ-loop
 add-done c =
@@ -67,11 +67,9 @@ loop-again c =
     let e = c .before .before .before .before .before .before .feed .ensures .0 in
     let n = ap (λ (f : Fed). f .number) e in
     let r = released-fits _ _ _ (sym n ∙ c .before .before .if1 .left) in
-    let m = ap (λ (f : Fed). f .released) e in (
-      length-kept o (c .before .before .before .before .before .before .feed .last .1 .1 .0) (c .before .before .before .before .before .before .before .before .before .before .before .loop .done) (omega (arith, c .before .before .before .before .before .before .before .before .before .before .before .loop .inv .0, c .before .before .before .before .before .before .before .before .before .before .before .loop .inv .1)) (c .before .before .before .before .before .before .feed .kept .1 .1 .0) ∙ c .before .before .before .before .before .before .before .before .before .before .before .loop .inv .0,
-      omega (arith, m, r, length-end o (c .before .before .before .before .before .before .before .before .before .before .before .loop .done), c .before .before .before .before .before .before .before .before .before .before .before .loop .inv .0, c .before .before .before .before .before .before .before .before .before .before .before .loop .inv .1),
-      omega (arith, c .before .before .before .before .before .before .before .before .before .least .ensures),
-    )
+    let m = ap (λ (f : Fed). f .released) e in
+    (length-kept o (c .before .before .before .before .before .before .feed .last .1 .1 .1 .0) (c .before .before .before .before .before .before .before .before .before .before .before .loop .done) (omega (arith, c .before .before .before .before .before .before .before .before .before .before .before .loop .inv .0, c .before .before .before .before .before .before .before .before .before .before .before .loop .inv .1)) (c .before .before .before .before .before .before .feed .kept .1 .1 .1 .0) ∙ c .before .before .before .before .before .before .before .before .before .before .before .loop .inv .0,
+    omega (arith, m, r, length-end o (c .before .before .before .before .before .before .before .before .before .before .before .loop .done), c .before .before .before .before .before .before .before .before .before .before .before .loop .inv .0, c .before .before .before .before .before .before .before .before .before .before .before .loop .inv .1), omega (arith, c .before .before .before .before .before .before .before .before .before .least .ensures))
 
 same-length-2 : tie.Need-same-length-2 Inv-loop μ-loop
 same-length-2 c = c .before .before .loop .inv .0
