@@ -1,14 +1,13 @@
 -- A feeding's answer and output, case by case in the order of its table.
-use mathlib.Core.Bool.{true, false}
+use mathlib.Core.Bool.{Bool, true, false, not, cond}
 use mathlib.Core.List.{List, [], _∷_, _++_}
-use mathlib.Core.Path.{_≡_, sym}
+use mathlib.Core.Path.{_≡_, refl, sym}
 use Prim.Native.Nat.{ℕ, _+_, _-_, _≤_, _<_}
 use native.Mathlib.Omega.{arith}
-use lib.Dec.{ltb}
+use lib.Dec.{ltb, eqb}
 use lib.ListN.{length, drop}
 use borrow.Author.Tests.{lt-ltb, le-ltb, ltb-false, ne-eqb}
-use Rattle.octets.specs.Answers.{answer}
-use Rattle.octets.proofs.Answers.{done-head, done-tail}
+use Rattle.octets.specs.Answers.{row, answer}
 use Rattle.scheme.specs.Machine.{feed as feedMachine, feedSample}
 use Rattle.scheme.specs.Part.{feedUnder}
 use Rattle.stream.specs.declared.Stream.{Stream}
@@ -75,9 +74,16 @@ module _ (t : Stream) (piece out : List ℕ) where
           (rw (s, within, r, z), rw (s, within, r))
 
 -- no more is released than the output has room for
-pub released-fits : (t : Stream) (piece : List ℕ) (room : ℕ) → feed t piece room .number ≡ 0 → feed t piece room .released ≤ room
+by-rows : (a b c : Bool) (room n : ℕ) → ltb room n ≡ c → cond (eqb (answer (row 13 a ∷ row 14 b ∷ row 15 c ∷ [])) 0) n 0 ≤ room
+unfolding answer
+by-rows true b c room n e = omega arith
+by-rows false true c room n e = omega arith
+by-rows false false true room n e = omega arith
+by-rows false false false room n e = ltb-false room n e
+
+pub released-fits : (f : Fed) (t : Stream) (piece : List ℕ) (room : ℕ) → f ≡ feed t piece room → f .released ≤ room
 unfolding feed feedRows
-released-fits t piece room h =
-    rw h
-    (ltb-false room (due t (length piece))
-    (done-head 15 _ _ (omega arith) (done-tail 14 _ _ (omega arith) (done-tail 13 _ _ (omega arith) h))))
+released-fits f t piece room e =
+    rw e
+    (by-rows (not (sound t)) (ltb (t .length) (t .position + length piece)) (ltb room (due t (length piece))) room
+    (due t (length piece)) refl)

@@ -1,7 +1,6 @@
-use mathlib.Core.Path.{_≡_, refl, sym, ap, _∙_}
+use mathlib.Core.Path.{_≡_, refl, _∙_}
 use Prim.Native.Nat.{_-_, _^_, _≤_, _<_}
 use lib.ListN.{length}
-use Rattle.stream.specs.declared.Fed.{Fed}
 use Rattle.stream.proofs.Feeding.{released-fits}
 use Rattle.pieces.proofs.Lengths.{length-end, length-kept}
 use borrow.Author.Needs.{needs}
@@ -52,11 +51,8 @@ same-length c =
 add-done : tie.Need-add-done Inv-loop μ-loop
 add-done c =
     let o = c .before .before .before .before .before .before .before .before .before .before .before .loop .out in
-    let e = c .before .before .before .before .before .before .feed .ensures .0 in
-    let n = ap (λ (f : Fed). f .number) e in
-    let r = released-fits _ _ _ (sym n ∙ c .before .before .if1 .left) in
-    let m = ap (λ (f : Fed). f .released) e in
-    record { fits = omega (arith, m, r, length-end o (c .before .before .before .before .before .before .before .before .before .before .before .loop .done), c .before .before .before .before .before .before .before .before .before .before .before .loop .inv .0, c .before .before .before .before .before .before .before .before .before .before .before .loop .inv .1, short (c .before .before .before .before .before .before .before .before .before .before .before .before .before .before)) }
+    let r = released-fits _ _ _ _ (c .before .before .before .before .before .before .feed .ensures .0) in
+    record { fits = omega (arith, r, length-end o (c .before .before .before .before .before .before .before .before .before .before .before .loop .done), c .before .before .before .before .before .before .before .before .before .before .before .loop .inv .0, c .before .before .before .before .before .before .before .before .before .before .before .loop .inv .1, short (c .before .before .before .before .before .before .before .before .before .before .before .before .before .before)) }
 
 loop-less : tie.Need-loop-less Inv-loop μ-loop
 loop-less c = omega (arith, c .before .before .before .before .before .before .before .before .before .least .ensures, c .before .before .before .before .before .before .before .before .before .before .loop-test .taken, c .before .before .before .before .before .before .before .before .before .before .before .before .before .before .pre)
@@ -64,12 +60,9 @@ loop-less c = omega (arith, c .before .before .before .before .before .before .b
 loop-again : tie.Need-loop-again Inv-loop μ-loop
 loop-again c =
     let o = c .before .before .before .before .before .before .before .before .before .before .before .loop .out in
-    let e = c .before .before .before .before .before .before .feed .ensures .0 in
-    let n = ap (λ (f : Fed). f .number) e in
-    let r = released-fits _ _ _ (sym n ∙ c .before .before .if1 .left) in
-    let m = ap (λ (f : Fed). f .released) e in
+    let r = released-fits _ _ _ _ (c .before .before .before .before .before .before .feed .ensures .0) in
     (length-kept o (c .before .before .before .before .before .before .feed .last .1 .1 .1 .0) (c .before .before .before .before .before .before .before .before .before .before .before .loop .done) (omega (arith, c .before .before .before .before .before .before .before .before .before .before .before .loop .inv .0, c .before .before .before .before .before .before .before .before .before .before .before .loop .inv .1)) (c .before .before .before .before .before .before .feed .kept .1 .1 .1 .0) ∙ c .before .before .before .before .before .before .before .before .before .before .before .loop .inv .0,
-    omega (arith, m, r, length-end o (c .before .before .before .before .before .before .before .before .before .before .before .loop .done), c .before .before .before .before .before .before .before .before .before .before .before .loop .inv .0, c .before .before .before .before .before .before .before .before .before .before .before .loop .inv .1), omega (arith, c .before .before .before .before .before .before .before .before .before .least .ensures))
+    omega (arith, r, length-end o (c .before .before .before .before .before .before .before .before .before .before .before .loop .done), c .before .before .before .before .before .before .before .before .before .before .before .loop .inv .0, c .before .before .before .before .before .before .before .before .before .before .before .loop .inv .1), omega (arith, c .before .before .before .before .before .before .before .before .before .least .ensures))
 
 same-length-2 : tie.Need-same-length-2 Inv-loop μ-loop
 same-length-2 c = c .before .before .loop .inv .0

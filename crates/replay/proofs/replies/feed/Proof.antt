@@ -1,6 +1,4 @@
-use mathlib.Core.Path.{ap}
-use lib.ListN.{length}
-use Rattle.replay.proofs.Room.{fed-fits}
+use Rattle.stream.proofs.Feeding.{released-fits}
 use borrow.Author.Needs.{needs}
 use native.Mathlib.Omega.{arith}
 use Rattle.replay.proofs.replies.feed.Statement.{statement}
@@ -9,8 +7,7 @@ use Rattle.replay.proofs.replies.feed.Tie as tie
 part-bytes-then-end : tie.Need-part-bytes-then-end
 part-bytes-then-end c =
     let f = c .before .before .before .before .before .before .before .feed in
-    let a = c .before .before .before .before .before .before .before .before .before .before .before .args in
-    omega (arith, ap (λ r. r .released) (f .ensures .0), fed-fits (a .stream) (a .piece .now) (length (a .lent .now)), f .kept .1 .1 .0)
+    omega (arith, released-fits _ _ _ _ (f .ensures .0), f .kept .1 .1 .0)
 
 pub feed-spec : {M : Type 1} → statement M
 feed-spec =
