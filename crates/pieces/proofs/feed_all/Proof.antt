@@ -60,9 +60,11 @@ loop-less c = omega (arith, c .before .before .before .before .before .before .b
 loop-again : tie.Need-loop-again Inv-loop μ-loop
 loop-again c =
     let o = c .before .before .before .before .before .before .before .before .before .before .before .loop .out in
-    let r = released-fits _ _ _ _ (c .before .before .before .before .before .before .feed .ensures .0) in
-    (length-kept o (c .before .before .before .before .before .before .feed .last .1 .1 .1 .0) (c .before .before .before .before .before .before .before .before .before .before .before .loop .done) (omega (arith, c .before .before .before .before .before .before .before .before .before .before .before .loop .inv .0, c .before .before .before .before .before .before .before .before .before .before .before .loop .inv .1)) (c .before .before .before .before .before .before .feed .kept .1 .1 .1 .0) ∙ c .before .before .before .before .before .before .before .before .before .before .before .loop .inv .0,
-    omega (arith, r, length-end o (c .before .before .before .before .before .before .before .before .before .before .before .loop .done), c .before .before .before .before .before .before .before .before .before .before .before .loop .inv .0, c .before .before .before .before .before .before .before .before .before .before .before .loop .inv .1), omega (arith, c .before .before .before .before .before .before .before .before .before .least .ensures))
+    let r = released-fits _ _ _ _ (c .before .before .before .before .before .before .feed .ensures .0) in (
+      length-kept o (c .before .before .before .before .before .before .feed .last .1 .1 .1 .0) (c .before .before .before .before .before .before .before .before .before .before .before .loop .done) (omega (arith, c .before .before .before .before .before .before .before .before .before .before .before .loop .inv .0, c .before .before .before .before .before .before .before .before .before .before .before .loop .inv .1)) (c .before .before .before .before .before .before .feed .kept .1 .1 .1 .0) ∙ c .before .before .before .before .before .before .before .before .before .before .before .loop .inv .0,
+      omega (arith, r, length-end o (c .before .before .before .before .before .before .before .before .before .before .before .loop .done), c .before .before .before .before .before .before .before .before .before .before .before .loop .inv .0, c .before .before .before .before .before .before .before .before .before .before .before .loop .inv .1),
+      omega (arith, c .before .before .before .before .before .before .before .before .before .least .ensures),
+    )
 
 same-length-2 : tie.Need-same-length-2 Inv-loop μ-loop
 same-length-2 c = c .before .before .loop .inv .0
