@@ -1,6 +1,6 @@
 # make test   proves every crate and runs every test; its last line counts them
 # make demo   builds, and shows the main job
-# make bench  measures, and prints the figures of docs/PERFORMANCE.md
+# make bench  measures, prints the figures, and puts them into docs/PERFORMANCE.md and docs/speed.svg
 
 .PHONY: test demo bench
 
@@ -16,4 +16,7 @@ demo:
 	@examples/c/run
 
 bench:
-	@bench/run
+	@mkdir -p target
+	@bench/run >target/speed.md
+	@cat target/speed.md
+	@bench/record target/speed.md
