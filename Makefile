@@ -1,8 +1,9 @@
 # make test   proves every crate and runs every test; its last line counts them
 # make demo   builds, and shows the main job
-# make bench  measures, and prints the figures of docs/PERFORMANCE.md
+# make bench  measures, prints the figures, and puts them into docs/PERFORMANCE.md and docs/speed.svg
+# make fuzz   tries damaged inputs for a minute
 
-.PHONY: test demo bench
+.PHONY: test demo bench fuzz
 
 test:
 	@tests/run
@@ -16,4 +17,13 @@ demo:
 	@examples/c/run
 
 bench:
-	@bench/run
+	@mkdir -p target
+	@bench/run >target/speed.md || { cat target/speed.md; exit 1; }
+	@cat target/speed.md
+	@bench/record target/speed.md
+
+fuzz:
+	@mkdir -p target
+	@rt check replay >target/fuzz.log 2>&1 || { cat target/fuzz.log; exit 1; }
+	@rt staticlib cenc >target/fuzz.log 2>&1 || { cat target/fuzz.log; exit 1; }
+	@fuzz/run 60
