@@ -10,10 +10,9 @@ test:
 
 demo:
 	@mkdir -p target
-	@rt check vectors sheet >target/demo.log 2>&1 || { cat target/demo.log; exit 1; }
+	@rt check feeder sheet >target/demo.log 2>&1 || { cat target/demo.log; exit 1; }
 	@rt staticlib cenc >target/demo.log 2>&1 || { cat target/demo.log; exit 1; }
-	@target/bin/vectors | sed -n '45,48p'
-	@target/bin/sheet <crates/sheet/stdin
+	@examples/feeder/run
 	@examples/c/run
 
 bench:
