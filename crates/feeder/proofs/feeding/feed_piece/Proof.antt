@@ -1,5 +1,3 @@
-use mathlib.Core.Path.{_≡_, ap, sym, _∙_}
-use Rattle.stream.specs.declared.Fed.{Fed}
 use Rattle.stream.proofs.Feeding.{released-fits}
 use borrow.Author.Needs.{needs}
 use native.Mathlib.Omega.{arith}
@@ -9,14 +7,12 @@ use Rattle.feeder.proofs.feeding.feed_piece.Tie as tie
 part-write-all-end : tie.Need-part-write-all-end
 part-write-all-end c =
     let f = c .before .before .before .before .before .before .feed-lent in
-    let n : f .result .number ≡ 0 = omega arith in
-    omega (arith, ap (λ (r : Fed). r .released) (f .ensures .0), released-fits _ _ _ (sym (ap (λ (r : Fed). r .number) (f .ensures .0)) ∙ n), f .kept .1 .1 .0)
+    omega (arith, released-fits _ _ _ _ (f .ensures .0), f .kept .1 .1 .0)
 
 returns-3 : tie.Need-returns-3
 returns-3 c =
     let f = c .before .before .before .before .before .before .before .before .before .feed-lent in
-    let n : f .result .number ≡ 0 = omega arith in
-    omega (arith, ap (λ (r : Fed). r .released) (f .ensures .0), released-fits _ _ _ (sym (ap (λ (r : Fed). r .number) (f .ensures .0)) ∙ n))
+    omega (arith, released-fits _ _ _ _ (f .ensures .0))
 
 pub feed-piece-spec : {M : Type 1} → statement M
 feed-piece-spec =
