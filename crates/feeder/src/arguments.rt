@@ -1,6 +1,7 @@
 // The words that the program is started with.
 ghost use Prim.Native.Nat.{_≤_};
 ghost use lib.ListN.{length};
+use crate::feeding;
 use modes::Direction;
 
 // The place of each; the program's own name is at 0.
@@ -22,9 +23,6 @@ pub const OUT: usize = 8;
 
 // How many there are.
 pub const COUNT: usize = 9;
-
-// The largest piece.
-const LARGEST: usize = 65536;
 
 // Puts a word at the start of a buffer and answers its length. One that is too long is cut, and still too long for a name.
 pub(crate) fn word(place: usize, text: &mut [u8]) -> usize
@@ -91,7 +89,7 @@ fn decimal(text: &[u8]) -> usize
             return 0;
         }
         value = value * 10 + d as usize;
-        if LARGEST < value {
+        if feeding::PIECE < value {
             return 0;
         }
         i += 1;

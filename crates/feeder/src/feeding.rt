@@ -7,7 +7,7 @@ use stream::in_place;
 use subsample::SubsampleMap;
 use track::refusal::DONE;
 
-// The largest piece, and the output that it needs: a held block may come before it.
+// The largest piece, and an output with room for the bytes held before it.
 pub const PIECE: usize = 65536;
 
 pub const OUTPUT: usize = PIECE + 16;

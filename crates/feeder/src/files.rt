@@ -72,7 +72,7 @@ fn read_whole(name: &[u8], buffer: &mut [u8]) -> Bytes
     }
     libc::close(file);
     if LONGEST < read.count {
-        tell::of(name, b"is longer than 4096 bytes");
+        tell::about(name, b"is longer than 4096 bytes");
         return Bytes::FAILED;
     }
     read

@@ -3,7 +3,8 @@
 //     feeder lock|open SCHEME BOX AUX KEYS PIECE IN OUT
 //
 // A line on standard output tells how it went, for a Rattle program has no exit status of its own; standard error has the
-// system's reason for a failure. After `done N` the N bytes of OUT have reached its device; after any other line OUT is as it was before.
+// system's reason for a failure. After `done N` the N bytes of OUT have reached its device; after any other line OUT is as
+// it was before.
 mod arguments;
 mod feeding;
 mod files;
@@ -16,14 +17,14 @@ use modes::Direction;
 use stream::Stream;
 use track::refusal::DONE;
 
-// A stream, if its start was not refused and the files were read.
+// A stream, if the files were read and its start was accepted.
 struct Begun {
     good: bool,
     stream: Stream,
 }
 
 impl Begun {
-    fn not() -> Begun {
+    fn failed() -> Begun {
         Begun {
             good: false,
             stream: Stream::idle(),
@@ -40,15 +41,15 @@ fn begin(direction: Direction, length: usize) -> Begun {
     let code_length = arguments::word(arguments::SCHEME, &mut code);
     let first = files::contents(arguments::BOX, &mut track_box);
     if !first.good {
-        return Begun::not();
+        return Begun::failed();
     }
     let second = files::contents(arguments::AUX, &mut auxiliary);
     if !second.good {
-        return Begun::not();
+        return Begun::failed();
     }
     let third = files::contents(arguments::KEYS, &mut key_record);
     if !third.good {
-        return Begun::not();
+        return Begun::failed();
     }
     let box_length = first.count;
     let auxiliary_length = second.count;
@@ -63,7 +64,7 @@ fn begin(direction: Direction, length: usize) -> Begun {
     );
     if started.number != DONE {
         tell::refused(started.number);
-        return Begun::not();
+        return Begun::failed();
     }
     let stream = started.stream;
     Begun { good: true, stream }
@@ -82,7 +83,7 @@ fn came_to_end(ending: Ending, input_name: &[u8], output_name: &[u8]) -> bool {
             false
         }
         Ending::Early => {
-            tell::of(input_name, b"ended early");
+            tell::about(input_name, b"ended early");
             false
         }
         Ending::Unwritten => {
@@ -114,7 +115,7 @@ fn feed_into(stream: Stream, size: usize, input: i32, input_name: &[u8], output_
 }
 
 // Feeds from an open file.
-fn feed_from(way: Way, size: usize, input: i32, input_name: &[u8], output_name: &[u8])
+fn feed_from(direction: Direction, size: usize, input: i32, input_name: &[u8], output_name: &[u8])
     requires { ⌜ size ≤ 65536 ⌝ }
 {
     let length = files::length(input);
@@ -122,7 +123,6 @@ fn feed_from(way: Way, size: usize, input: i32, input_name: &[u8], output_name: 
         tell::cannot(b"read", input_name);
         return;
     }
-    let direction = way.direction;
     let begun = begin(direction, length.count);
     if begun.good {
         let stream = begun.stream;
@@ -131,14 +131,14 @@ fn feed_from(way: Way, size: usize, input: i32, input_name: &[u8], output_name: 
 }
 
 // Feeds from a file into a new one.
-fn feed(way: Way, size: usize, input_name: &[u8], output_name: &[u8])
+fn feed(direction: Direction, size: usize, input_name: &[u8], output_name: &[u8])
     requires { ⌜ size ≤ 65536 ⌝ }
 {
     let input = files::open(input_name);
     if input < 0 {
         return;
     }
-    feed_from(way, size, input, input_name, output_name);
+    feed_from(direction, size, input, input_name, output_name);
     libc::close(input);
 }
 
@@ -153,8 +153,9 @@ fn main() {
     let mut output = io::buffer();
     let input_length = arguments::word(arguments::IN, &mut input);
     let output_length = arguments::word(arguments::OUT, &mut output);
+    let direction = way.direction;
     feed(
-        way,
+        direction,
         size,
         &input[0..input_length],
         &output[0..output_length],

@@ -39,7 +39,7 @@ pub(crate) fn cannot(verb: &[u8], name: &[u8]) {
 }
 
 // `NAME WHAT`.
-pub(crate) fn of(name: &[u8], what: &[u8]) {
+pub(crate) fn about(name: &[u8], what: &[u8]) {
     io::write_all(STDOUT_FILENO, name);
     io::write_all(STDOUT_FILENO, b" ");
     io::write_all(STDOUT_FILENO, what);
