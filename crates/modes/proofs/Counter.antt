@@ -9,13 +9,14 @@ use Rattle.octets.specs.Bytes.{listOf, number, digits}
 use Rattle.octets.proofs.Bytes.{number-below, number-digits, number-after, digits-number, part-listOf, listOf-getD}
 use Rattle.modes.specs.Modes.{counterAt}
 
-count-at : (iv : List ℕ) → 8 ≤ length iv → (n : ℕ) → number 8 (counterAt iv n) 8 ≡ (number 8 iv 8 + n) % 2 ^ 64
+-- bytes 8 to 15 count, and bytes 0 to 7 stay
+pub count-at : (iv : List ℕ) → 8 ≤ length iv → (n : ℕ) → number 8 (counterAt iv n) 8 ≡ (number 8 iv 8 + n) % 2 ^ 64
 unfolding counterAt
 count-at iv l n =
     let v : ℕ = (number 8 iv 8 + n) % 2 ^ 64 in
     number-after 8 (take 8 iv) (digits 8 v) 8 (length-take-le 8 iv l) ∙ number-digits 8 v (omega arith)
 
-head-at : (iv : List ℕ) → 8 ≤ length iv → (n : ℕ) → take 8 (counterAt iv n) ≡ take 8 iv
+pub head-at : (iv : List ℕ) → 8 ≤ length iv → (n : ℕ) → take 8 (counterAt iv n) ≡ take 8 iv
 unfolding counterAt
 head-at iv l n = take-at (take 8 iv) _ 8 (length-take-le 8 iv l)
 

@@ -1,0 +1,86 @@
+-- What a grant answers, by its table, and what follows from the answer.
+use mathlib.Core.Bool.{Bool, true, false, _||_, or-true, true≢false}
+use mathlib.Core.Path.{_≡_, refl, sym, _∙_}
+use Prim.Native.Nat.{ℕ, _≤_, _<_}
+use native.Mathlib.Omega.{arith}
+use lib.Dec.{eqb, ltb}
+use borrow.Author.Tests.{ltb-true, ltb-false, lt-ltb, le-ltb, ne-eqb, eqb-true}
+use Rattle.octets.specs.Answers.{answer}
+use Rattle.octets.proofs.Answers.{done-head, done-tail}
+use Rattle.track.specs.Track.{zeros}
+use Rattle.issuer.specs.declared.IvSize.{IvSize}
+use Rattle.issuer.specs.declared.IvSize.the-variants.{Eight, Sixteen}
+use Rattle.issuer.specs.declared.Issuer.{Issuer}
+use Rattle.issuer.specs.declared.Granted.{Granted}
+use Rattle.issuer.specs.Issuer.{largest, mostBlocks, vector, advance, lastNumber, badCount, pastEnd, grantRows, after, grant}
+
+||-left : (a b : Bool) → a || b ≡ false → a ≡ false
+||-left true b e = e
+||-left false b e = refl
+
+||-right : (a b : Bool) → a || b ≡ false → b ≡ false
+||-right true b e = absurd (true≢false e)
+||-right false b e = e
+
+pub advance-some : (s : IvSize) (n : ℕ) → 1 ≤ n → 1 ≤ advance s n
+unfolding advance
+advance-some Eight n h = omega arith
+advance-some Sixteen n h = h
+
+-- A refusal hands out zeros and the issuer as it was.
+abbrev pub refusal : ℕ → Issuer → Granted
+refusal k i = record { number = k; vector = record { 0 = zeros }; issuer = i }
+
+module _ (i : Issuer) (n : ℕ) where
+  pub grant-refused : (k : ℕ) → answer (grantRows i n) ≡ k → (k ≡ 0 → ⊥) → grant i n ≡ refusal k i
+  unfolding grant
+  grant-refused k e h = rw (e, ne-eqb k 0 h)
+
+  pub grant-accepted : answer (grantRows i n) ≡ 0
+      → grant i n ≡ record { number = 0; vector = record { 0 = vector (i .size) (i .first) (i .number) }; issuer = after i (lastNumber i n) }
+  unfolding grant
+  grant-accepted e = rw e
+
+  -- ---- The number answered.
+
+  pub too-few : n < 1 → answer (grantRows i n) ≡ 19
+  unfolding grantRows answer
+  too-few h = rw (lt-ltb n 1 h)
+
+  pub too-many : mostBlocks < n → answer (grantRows i n) ≡ 19
+  unfolding grantRows answer
+  too-many h = rw (le-ltb n 1 (omega arith), lt-ltb mostBlocks n h)
+
+  module _ (l : 1 ≤ n) (m : n ≤ mostBlocks) where
+    pub used-up : i .«used_up» ≡ true → answer (grantRows i n) ≡ 20
+    unfolding grantRows answer
+    used-up h = rw (le-ltb n 1 l, le-ltb mostBlocks n m, h)
+
+    pub passes-largest : largest < lastNumber i n → answer (grantRows i n) ≡ 20
+    unfolding grantRows answer
+    passes-largest h = rw (le-ltb n 1 l, le-ltb mostBlocks n m, lt-ltb largest (lastNumber i n) h, or-true (i .«used_up»))
+
+    pub fits : i .«used_up» ≡ false → lastNumber i n ≤ largest → answer (grantRows i n) ≡ 0
+    unfolding grantRows answer
+    fits u h = rw (le-ltb n 1 l, le-ltb mostBlocks n m, le-ltb largest (lastNumber i n) h, u)
+
+-- ---- What an accepted grant says.
+
+-- The count is allowed, the issuer is not used up, and no number covered passes the largest.
+pub record Accepted (i : Issuer) (n : ℕ) : Type 0 where
+  pub some : 1 ≤ n
+  pub few : n ≤ mostBlocks
+  pub left : i .«used_up» ≡ false
+  pub below : lastNumber i n ≤ largest
+
+pub accepted : (i : Issuer) (n : ℕ) → answer (grantRows i n) ≡ 0 → Accepted i n
+unfolding grantRows
+accepted i n h =
+    let c : badCount n ≡ false = done-head 19 _ _ (omega arith) h in
+    let e : pastEnd i n ≡ false = done-head 20 _ _ (omega arith) (done-tail 19 _ _ (omega arith) h) in
+    record {
+      some = ltb-false n 1 (||-left (ltb n 1) (ltb mostBlocks n) c);
+      few = ltb-false mostBlocks n (||-right (ltb n 1) (ltb mostBlocks n) c);
+      left = ||-left (i .«used_up») (ltb largest (lastNumber i n)) e;
+      below = ltb-false largest (lastNumber i n) (||-right (i .«used_up») (ltb largest (lastNumber i n)) e);
+    }

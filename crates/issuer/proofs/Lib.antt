@@ -1,0 +1,3 @@
+pub mod Granting
+pub mod Order
+pub mod NeverTwice

@@ -1,0 +1,28 @@
+use lib.ListN.{length}
+use borrow.Author.Tests.{eq-eqb, ne-eqb}
+use Rattle.octets.specs.Answers.{answer}
+use Rattle.issuer.specs.Issuer.{startRows, started, start}
+use borrow.Author.Needs.{needs}
+use Rattle.issuer.proofs.start.Statement.{statement}
+use Rattle.issuer.proofs.start.Tie as tie
+
+returns : tie.Need-returns
+unfolding start startRows started answer
+returns c = rw (eq-eqb (length (c .before .before .before .args .bytes .now)) 8 (c .before .if1 .taken), c .be64 .ensures)
+
+returns-2 : tie.Need-returns-2
+unfolding start startRows started answer
+returns-2 c =
+    let n = length (c .before .before .before .before .before .args .bytes .now) in
+    rw (ne-eqb n 8 (c .before .before .before .if1 .left), eq-eqb n 16 (c .before .before .if2 .taken), c .before .first-eight .ensures, c .be642 .ensures)
+
+returns-3 : tie.Need-returns-3
+unfolding start startRows started answer
+returns-3 c =
+    let n = length (c .before .before .before .before .args .bytes .now) in
+    rw (ne-eqb n 8 (c .before .before .if1 .left), ne-eqb n 16 (c .before .if2 .left), c .exhausted .ensures)
+
+pub start-spec : {M : Type 1} → statement M
+start-spec =
+    tie.close
+    (tie.spec (search needs) returns (search needs) (search needs) returns-2 (search needs) returns-3)
