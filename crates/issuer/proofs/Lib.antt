@@ -1,3 +1,5 @@
 pub mod Granting
 pub mod Order
+pub mod Starting
 pub mod NeverTwice
+pub mod Archive

@@ -1,5 +1,5 @@
 -- No two grants from one start cover the same counter block.
-use mathlib.Core.Bool.{Bool, true, false, cond}
+use mathlib.Core.Bool.{Bool}
 use mathlib.Core.List.{List, _++_}
 use mathlib.Core.Path.{_≡_, refl, sym, ap, _∙_}
 use Prim.Native.Nat.{ℕ, _+_, _-_, _%_, _^_, _≤_, _<_}
@@ -8,18 +8,17 @@ use lib.Dec.{eqb, ltb}
 use lib.ListN.{length, getD, take, replicate, length-append}
 use lib.Seq.{take-at}
 use borrow.Author.Tests.{ltb-true, ltb-false}
-use Rattle.octets.specs.Answers.{answer}
 use Rattle.octets.specs.Bytes.{number, digits, filled}
 use Rattle.octets.proofs.Bytes.{length-digits, number-digits, number-after}
 use Rattle.modes.specs.Modes.{counterAt}
 use Rattle.modes.proofs.Counter.{count-at, head-at, distinct}
-use Rattle.sample.proofs.Accepted.{filled-length}
 use Rattle.issuer.specs.declared.IvSize.{IvSize}
 use Rattle.issuer.specs.declared.IvSize.the-variants.{Eight, Sixteen}
 use Rattle.issuer.specs.declared.Issuer.{Issuer}
-use Rattle.issuer.specs.Issuer.{largest, mostBlocks, issuer, exhausted, vector, advance, startRows, started, start}
+use Rattle.issuer.specs.Issuer.{largest, vector, advance, start}
 use Rattle.issuer.specs.Grants.{answerAt, advanced, Covers}
-use Rattle.issuer.proofs.Order.{Granting, in-order, advanced-later}
+use Rattle.issuer.proofs.Order.{in-order, advanced-later}
+use Rattle.issuer.proofs.Starting.{first-length}
 
 -- ---- One counter block.
 
@@ -103,16 +102,6 @@ module _ (i : Issuer) (l : length (i .first) ≡ 8) (ns : List ℕ) where
 
 -- ---- From a start.
 
-started-first : (bytes : List ℕ) → length (start bytes .issuer .first) ≡ 8
-unfolding start started
-started-first bytes = go (eqb (answer (startRows bytes)) 0) (eqb (length bytes) 8)
-  where
-    go : (b c : Bool)
-        → length (cond b (cond c (issuer Eight (replicate 8 0) (number 8 bytes 0) false) (issuer Sixteen (filled 8 bytes) (number 8 bytes 8) false)) exhausted .first) ≡ 8
-    go true true = refl
-    go true false = filled-length 8 bytes
-    go false c = refl
-
 -- No two accepted grants cover the same counter block, and none covers one twice.
 module _ (bytes counts : List ℕ) (j k : ℕ) (block : List ℕ) (p : Covers bytes counts j block) (q : Covers bytes counts k block) where
   abbrev i : Issuer
@@ -123,7 +112,7 @@ module _ (bytes counts : List ℕ) (j k : ℕ) (block : List ℕ) (p : Covers by
 
   same-grant : j ≡ k
   same-grant =
-      let l = started-first bytes in
+      let l = first-length bytes in
       let after : j < k → ⊥ = not-before i l counts j k (p .step) (q .step) (p .accepted) (q .accepted) (p .named) (q .named) same-block in
       let before : k < j → ⊥ = not-before i l counts k j (q .step) (p .step) (q .accepted) (p .accepted) (q .named) (p .named) (sym same-block) in
       omega arith
@@ -132,7 +121,7 @@ module _ (bytes counts : List ℕ) (j k : ℕ) (block : List ℕ) (p : Covers by
   same-step =
       let g = in-order i counts j (p .accepted) in
       let h = in-order i counts k (q .accepted) in
-      let v = vector-length (i .first) (started-first bytes) (i .size) (i .number + advanced i counts j) in
+      let v = vector-length (i .first) (first-length bytes) (i .size) (i .number + advanced i counts j) in
       let l : length (answerAt i counts j .vector .0) ≡ 16 = rw (g .handed) v in
       distinct (answerAt i counts j .vector .0) (omega arith) (p .step) (q .step) (omega (arith, p .named, g .few))
       (omega (arith, q .named, h .few))

@@ -1,2 +1,3 @@
 pub mod Issuer
 pub mod Grants
+pub mod Archive
