@@ -1,11 +1,11 @@
 -- Samples locked with start vectors of one issuer share no counter block.
 use mathlib.Core.Bool.{false, and-false}
 use mathlib.Core.List.{List, []}
-use mathlib.Core.Path.{_≡_, refl, sym, _∙_}
+use mathlib.Core.Path.{_≡_, _∙_}
 use Prim.Native.Nat.{ℕ, _+_, _≤_, _<_}
 use native.Mathlib.Omega.{arith}
 use lib.Dec.{eqb}
-use lib.ListN.{length, getD, take, replicate}
+use lib.ListN.{length, take, replicate}
 use lib.Seq.{take-at, take-all}
 use borrow.Author.Tests.{le-ltb, ne-eqb}
 use Rattle.octets.specs.Bytes.{digits, filled}

@@ -1,10 +1,10 @@
 -- What a grant answers, by its table, and what follows from the answer.
 use mathlib.Core.Bool.{Bool, true, false, _||_, or-true, true≢false}
-use mathlib.Core.Path.{_≡_, refl, sym, _∙_}
+use mathlib.Core.Path.{_≡_, refl}
 use Prim.Native.Nat.{ℕ, _≤_, _<_}
 use native.Mathlib.Omega.{arith}
-use lib.Dec.{eqb, ltb}
-use borrow.Author.Tests.{ltb-true, ltb-false, lt-ltb, le-ltb, ne-eqb, eqb-true}
+use lib.Dec.{ltb}
+use borrow.Author.Tests.{ltb-false, lt-ltb, le-ltb, ne-eqb}
 use Rattle.octets.specs.Answers.{answer}
 use Rattle.octets.proofs.Answers.{done-head, done-tail}
 use Rattle.track.specs.Track.{zeros}
@@ -27,6 +27,13 @@ unfolding advance
 advance-some Eight n h = omega arith
 advance-some Sixteen n h = h
 
+-- what an allowed count is
+pub count-some : (n : ℕ) → badCount n ≡ false → 1 ≤ n
+count-some n c = ltb-false n 1 (||-left (ltb n 1) (ltb mostBlocks n) c)
+
+pub count-few : (n : ℕ) → badCount n ≡ false → n ≤ mostBlocks
+count-few n c = ltb-false mostBlocks n (||-right (ltb n 1) (ltb mostBlocks n) c)
+
 -- A refusal hands out zeros and the issuer as it was.
 abbrev pub refusal : ℕ → Issuer → Granted
 refusal k i = record { number = k; vector = record { 0 = zeros }; issuer = i }
@@ -43,26 +50,22 @@ module _ (i : Issuer) (n : ℕ) where
 
   -- ---- The number answered.
 
-  pub too-few : n < 1 → answer (grantRows i n) ≡ 19
+  pub count-refused : badCount n ≡ true → answer (grantRows i n) ≡ 19
   unfolding grantRows answer
-  too-few h = rw (lt-ltb n 1 h)
+  count-refused h = rw h
 
-  pub too-many : mostBlocks < n → answer (grantRows i n) ≡ 19
-  unfolding grantRows answer
-  too-many h = rw (le-ltb n 1 (omega arith), lt-ltb mostBlocks n h)
-
-  module _ (l : 1 ≤ n) (m : n ≤ mostBlocks) where
+  module _ (c : badCount n ≡ false) where
     pub used-up : i .«used_up» ≡ true → answer (grantRows i n) ≡ 20
     unfolding grantRows answer
-    used-up h = rw (le-ltb n 1 l, le-ltb mostBlocks n m, h)
+    used-up h = rw (c, h)
 
     pub passes-largest : largest < lastNumber i n → answer (grantRows i n) ≡ 20
     unfolding grantRows answer
-    passes-largest h = rw (le-ltb n 1 l, le-ltb mostBlocks n m, lt-ltb largest (lastNumber i n) h, or-true (i .«used_up»))
+    passes-largest h = rw (c, lt-ltb largest (lastNumber i n) h, or-true (i .«used_up»))
 
     pub fits : i .«used_up» ≡ false → lastNumber i n ≤ largest → answer (grantRows i n) ≡ 0
     unfolding grantRows answer
-    fits u h = rw (le-ltb n 1 l, le-ltb mostBlocks n m, le-ltb largest (lastNumber i n) h, u)
+    fits u h = rw (c, le-ltb largest (lastNumber i n) h, u)
 
 -- ---- What an accepted grant says.
 
@@ -79,8 +82,22 @@ accepted i n h =
     let c : badCount n ≡ false = done-head 19 _ _ (omega arith) h in
     let e : pastEnd i n ≡ false = done-head 20 _ _ (omega arith) (done-tail 19 _ _ (omega arith) h) in
     record {
-      some = ltb-false n 1 (||-left (ltb n 1) (ltb mostBlocks n) c);
-      few = ltb-false mostBlocks n (||-right (ltb n 1) (ltb mostBlocks n) c);
+      some = count-some n c;
+      few = count-few n c;
       left = ||-left (i .«used_up») (ltb largest (lastNumber i n)) e;
       below = ltb-false largest (lastNumber i n) (||-right (i .«used_up») (ltb largest (lastNumber i n)) e);
     }
+
+-- ---- What a refused grant leaves.
+
+module _ (i : Issuer) (n : ℕ) where
+  -- the issuer as it was, and zeros
+  pub refused-stays : (grant i n .number ≡ 0 → ⊥) → (grant i n .issuer ≡ i) × (grant i n .vector .0 ≡ zeros)
+  unfolding grant
+  refused-stays h = (rw (ne-eqb (answer (grantRows i n)) 0 h), rw (ne-eqb (answer (grantRows i n)) 0 h))
+
+  -- so one refused for too large a count leaves the issuer usable for a smaller one
+  pub smaller-granted : (grant i n .number ≡ 0 → ⊥) → (m : ℕ) → badCount m ≡ false → i .«used_up» ≡ false
+      → lastNumber i m ≤ largest → grant (grant i n .issuer) m .number ≡ 0
+  unfolding grant
+  smaller-granted h m c u l = rw (ne-eqb (answer (grantRows i n)) 0 h) (fits i m c u l)

@@ -3,3 +3,5 @@ pub mod Order
 pub mod Starting
 pub mod NeverTwice
 pub mod Archive
+pub mod Depends
+pub mod Examples

@@ -1,14 +1,11 @@
 -- No two grants from one start cover the same counter block.
-use mathlib.Core.Bool.{Bool}
-use mathlib.Core.List.{List, _++_}
-use mathlib.Core.Path.{_≡_, refl, sym, ap, _∙_}
+use mathlib.Core.List.{List}
+use mathlib.Core.Path.{_≡_, sym, ap, _∙_}
 use Prim.Native.Nat.{ℕ, _+_, _-_, _%_, _^_, _≤_, _<_}
 use native.Mathlib.Omega.{arith}
-use lib.Dec.{eqb, ltb}
 use lib.ListN.{length, getD, take, replicate, length-append}
 use lib.Seq.{take-at}
-use borrow.Author.Tests.{ltb-true, ltb-false}
-use Rattle.octets.specs.Bytes.{number, digits, filled}
+use Rattle.octets.specs.Bytes.{number, digits}
 use Rattle.octets.proofs.Bytes.{length-digits, number-digits, number-after}
 use Rattle.modes.specs.Modes.{counterAt}
 use Rattle.modes.proofs.Counter.{count-at, head-at, distinct}

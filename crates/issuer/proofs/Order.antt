@@ -1,7 +1,7 @@
 -- A list of grants, each from the issuer that the one before handed back: what an accepted one hands out.
 use mathlib.Core.Bool.{Bool, true, false, cond, true≢false}
 use mathlib.Core.List.{List, [], _∷_}
-use mathlib.Core.Path.{_≡_, refl, sym, ap, _∙_}
+use mathlib.Core.Path.{_≡_, refl, sym, _∙_}
 use Prim.Native.Nat.{ℕ, zero, suc, _+_, _-_, _≤_, _<_}
 use native.Mathlib.Omega.{arith}
 use lib.Dec.{eqb}
@@ -9,10 +9,9 @@ use lib.ListN.{getD}
 use borrow.Author.Tests.{eqb-true, eqb-false, ne-eqb}
 use Rattle.octets.specs.Answers.{answer}
 use Rattle.issuer.specs.declared.Issuer.{Issuer}
-use Rattle.issuer.specs.declared.Granted.{Granted}
 use Rattle.issuer.specs.Issuer.{largest, mostBlocks, issuer, exhausted, vector, advance, lastNumber, grantRows, after, grant}
 use Rattle.issuer.specs.Grants.{run, answerAt, advanced}
-use Rattle.issuer.proofs.Granting.{advance-some, refusal, grant-refused, grant-accepted, used-up, Accepted, accepted}
+use Rattle.issuer.proofs.Granting.{advance-some, grant-refused, grant-accepted, Accepted, accepted}
 
 -- ---- One grant.
 
@@ -21,7 +20,7 @@ data Outcome (i : Issuer) (n : ℕ) : Type 0 where
   refused : (grant i n .number ≡ 0 → ⊥) → grant i n .issuer ≡ i → Outcome i n
   further : Accepted i n → grant i n .number ≡ 0
       → grant i n .issuer ≡ issuer (i .size) (i .first) (i .number + advance (i .size) n) false → Outcome i n
-  finished : Accepted i n → grant i n .number ≡ 0 → grant i n .issuer ≡ issuer (i .size) (i .first) largest true → Outcome i n
+  finished : Accepted i n → grant i n .number ≡ 0 → grant i n .issuer ≡ issuer (i .size) (i .first) (i .number) true → Outcome i n
 
 module _ (i : Issuer) (n : ℕ) where
   number-is : grant i n .number ≡ answer (grantRows i n)
@@ -33,9 +32,9 @@ module _ (i : Issuer) (n : ℕ) where
   unfolding after lastNumber
   after-further a h =
       let e : i .number + (advance (i .size) n - 1) + 1 ≡ i .number + advance (i .size) n = omega (arith, advance-some (i .size) n (a .some)) in
-      rw (ne-eqb (i .number + (advance (i .size) n - 1)) largest h, e)
+      rw (ne-eqb (i .number + (advance (i .size) n - 1)) largest h, e, a .left)
 
-  after-finished : lastNumber i n ≡ largest → after i (lastNumber i n) ≡ issuer (i .size) (i .first) largest true
+  after-finished : lastNumber i n ≡ largest → after i (lastNumber i n) ≡ issuer (i .size) (i .first) (i .number) true
   unfolding after
   after-finished e = rw e
 
@@ -48,6 +47,7 @@ module _ (i : Issuer) (n : ℕ) where
       last z false e =
           further (accepted i n z) (number-is ∙ z)
           (rw (grant-accepted i n z) (after-further (accepted i n z) (eqb-false (lastNumber i n) largest e)))
+
       go : (b : Bool) → eqb (answer (grantRows i n)) 0 ≡ b → Outcome i n
       go true e = last (eqb-true (answer (grantRows i n)) 0 e) (eqb (lastNumber i n) largest) refl
       go false e =

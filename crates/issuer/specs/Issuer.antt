@@ -73,9 +73,10 @@ pastEnd i n = i .«used_up» || ltb largest (lastNumber i n)
 unfoldable pub grantRows : Issuer → ℕ → List Row
 grantRows i n = row 19 (badCount n) ∷ row 20 (pastEnd i n) ∷ []
 
--- The issuer once all numbers up to `last` are covered: the next number follows, and after the largest it is used up.
+-- The issuer once all numbers up to `last` are covered: it goes on with the next one, and after the largest it is used up.
 unfoldable pub after : Issuer → ℕ → Issuer
-after i last = cond (eqb last largest) (issuer (i .size) (i .first) last true) (issuer (i .size) (i .first) (last + 1) false)
+after i last =
+    cond (eqb last largest) (issuer (i .size) (i .first) (i .number) true) (issuer (i .size) (i .first) (last + 1) (i .«used_up»))
 
 -- A refusal changes nothing and hands out zeros.
 unfoldable pub grant : Issuer → ℕ → Granted

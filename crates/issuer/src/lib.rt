@@ -106,7 +106,21 @@ fn joined(a: [u8; 8], b: [u8; 8]) -> [u8; 16]
     ensures { λ r. ⌜ r ≡ a ++ b ⌝ }
 {
     [
-        a[0], a[1], a[2], a[3], a[4], a[5], a[6], a[7], b[0], b[1], b[2], b[3], b[4], b[5], b[6],
+        a[0],
+        a[1],
+        a[2],
+        a[3],
+        a[4],
+        a[5],
+        a[6],
+        a[7],
+        b[0],
+        b[1],
+        b[2],
+        b[3],
+        b[4],
+        b[5],
+        b[6],
         b[7],
     ]
 }
@@ -131,26 +145,17 @@ fn advance(size: IvSize, blocks: u64) -> u64
     }
 }
 
-// The issuer once all numbers up to one are covered.
+// The issuer once all numbers up to `last` are covered: it goes on with the next one, and after the largest it is used up.
 fn after(issuer: Issuer, last: u64) -> Issuer
     ensures { λ r. ⌜ r ≡ spec.after issuer last ⌝ }
 {
-    let size = issuer.size;
-    let first = issuer.first;
+    let mut next = issuer;
     if last == u64::MAX {
-        return Issuer {
-            size,
-            first,
-            number: last,
-            used_up: true,
-        };
+        next.used_up = true;
+    } else {
+        next.number = last + 1;
     }
-    Issuer {
-        size,
-        first,
-        number: last + 1,
-        used_up: false,
-    }
+    next
 }
 
 fn refused(number: u8, issuer: Issuer) -> Granted
@@ -163,14 +168,18 @@ fn refused(number: u8, issuer: Issuer) -> Granted
     }
 }
 
+// 19: a count below 1 or above the most.
+fn bad_count(blocks: u64) -> bool
+    ensures { λ r. ⌜ r ≡ spec.badCount blocks ⌝ }
+{
+    blocks < 1 || Issuer::MOST_BLOCKS < blocks
+}
+
 // Grants a start vector for a sample of so many blocks: 19 and 20. A refusal hands out zeros and the issuer as it was.
 pub fn grant(issuer: Issuer, blocks: u64) -> Granted
     ensures { λ r. ⌜ r ≡ spec.grant issuer blocks ⌝ }
 {
-    if blocks < 1 {
-        return refused(refusal::COUNT, issuer);
-    }
-    if Issuer::MOST_BLOCKS < blocks {
+    if bad_count(blocks) {
         return refused(refusal::COUNT, issuer);
     }
     if issuer.used_up {
@@ -182,9 +191,10 @@ pub fn grant(issuer: Issuer, blocks: u64) -> Granted
     if u64::MAX - issuer.number < past {
         return refused(refusal::USED_UP, issuer);
     }
+    let last = issuer.number + past;
     Granted {
         number: DONE,
         vector: vector(size, first, issuer.number),
-        issuer: after(issuer, issuer.number + past),
+        issuer: after(issuer, last),
     }
 }

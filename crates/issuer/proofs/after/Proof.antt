@@ -6,13 +6,13 @@ use Rattle.issuer.proofs.after.Tie as tie
 
 returns : tie.Need-returns
 unfolding after
-returns c = rw (eq-eqb (c .before .before .args .last) largest (c .if1 .taken))
+returns c = rw (eq-eqb (c .before .args .last) largest (c .if1 .taken))
 
 returns-2 : tie.Need-returns-2
 unfolding after
-returns-2 c = rw (ne-eqb (c .before .before .args .last) largest (c .if1 .left))
+returns-2 c = rw (ne-eqb (c .before .args .last) largest (c .if1 .left))
 
 pub after-spec : {M : Type 1} → statement M
 after-spec =
     tie.close
-    (tie.spec returns (search needs) returns-2)
+    (tie.spec (search needs) returns returns-2)
