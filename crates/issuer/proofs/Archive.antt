@@ -2,7 +2,7 @@
 use mathlib.Core.Bool.{false, and-false}
 use mathlib.Core.List.{List, []}
 use mathlib.Core.Path.{_≡_, _∙_}
-use Prim.Native.Nat.{ℕ, _+_, _≤_, _<_}
+use Prim.Native.Nat.{ℕ, _+_, _/_, _≤_, _<_}
 use native.Mathlib.Omega.{arith}
 use lib.Dec.{eqb}
 use lib.ListN.{length, take, replicate}
@@ -13,13 +13,16 @@ use Rattle.octets.proofs.Bytes.{length-digits, filled-short, filled-all, getD-l
 use Rattle.modes.specs.Modes.{counterAt}
 use Rattle.track.specs.declared.Parameters.{Parameters}
 use Rattle.subsample.specs.Auxiliary.{ivRead}
-use Rattle.scheme.specs.Counters.{counterBlocks}
+use Rattle.scheme.specs.Layout.{schemeOf}
+use Rattle.scheme.specs.Counters.{blocksNeeded, counterBlocks}
+use Rattle.scheme.proofs.Counters.{count-total}
+use Rattle.sample.proofs.Accepted.{accepted-length}
 use Rattle.sample.proofs.Counters.{blocks-fit}
 use Rattle.issuer.specs.declared.IvSize.the-variants.{Eight, Sixteen}
 use Rattle.issuer.specs.declared.Issuer.{Issuer}
 use Rattle.issuer.specs.Issuer.{mostBlocks, start, vector, badCount}
-use Rattle.issuer.specs.Grants.{answerAt, advanced, Covers}
-use Rattle.issuer.specs.Archive.{Sample, ivOf, answerTo, needed, blockOf, LockedWith}
+use Rattle.issuer.specs.Grants.{grantAt, advanced, Covers}
+use Rattle.issuer.specs.Archive.{Sample, parameters, layout, ivOf, answerTo, needed, blockOf, LockedWith}
 use Rattle.issuer.proofs.Order.{never-again, in-order}
 use Rattle.issuer.proofs.Starting.{Begun, eight, sixteen, refused, begun, first-length}
 use Rattle.issuer.proofs.NeverTwice.{vector-length, never-twice}
@@ -30,7 +33,18 @@ use Rattle.issuer.proofs.NeverTwice.{vector-length, never-twice}
 pub needs-at-most : (x : Sample) → answerTo x ≡ 0 → needed x ≤ mostBlocks
 needs-at-most x h = blocks-fit (x .code) (x .box) (x .auxiliary) (x .keys) (x .length) h
 
--- so its count is allowed, where it needs any
+-- a count of its length by 16, rounded up, is always enough
+pub needs-by-length : (x : Sample) → answerTo x ≡ 0 → needed x ≤ (x .length + 15) / 16
+unfolding blocksNeeded
+needs-by-length x h =
+    let p = parameters x in
+    omega (
+      arith,
+      count-total (schemeOf (p .code)) (p .crypt) (p .skip) (layout x),
+      accepted-length (x .code) (x .box) (x .auxiliary) (x .keys) (x .length) h,
+    )
+
+-- its own count is allowed, where it needs any
 pub count-allowed : (x : Sample) → answerTo x ≡ 0 → 1 ≤ needed x → badCount (needed x) ≡ false
 count-allowed x h l = rw (le-ltb (needed x) 1 l, le-ltb mostBlocks (needed x) (needs-at-most x h))
 
@@ -72,25 +86,25 @@ filled-sixteen f v l =
     rw (take-all 16 (vector Sixteen f v) (omega arith)) (filled-all 16 (vector Sixteen f v) n)
 
 -- Auxiliary data that begins with a granted start vector, as many bytes of it as the issuer was started from, has that IV.
-module _ (bytes counts : List ℕ) (k : ℕ) (a : answerAt (start bytes .issuer) counts k .number ≡ 0) (p : Parameters)
+module _ (bytes counts : List ℕ) (k : ℕ) (a : grantAt (start bytes .issuer) counts k .number ≡ 0) (p : Parameters)
     (s : p .«iv_size» ≡ length bytes) (aux : List ℕ)
-    (e : take (length bytes) aux ≡ take (length bytes) (answerAt (start bytes .issuer) counts k .vector .0)) where
+    (e : take (length bytes) aux ≡ take (length bytes) (grantAt (start bytes .issuer) counts k .vector .0)) where
   abbrev i : Issuer
   i = start bytes .issuer
 
   granted-vector : Begun bytes
-      → (filled 16 (take (length bytes) (answerAt i counts k .vector .0)) ≡ answerAt i counts k .vector .0) × (0 < length bytes)
+      → (filled 16 (take (length bytes) (grantAt i counts k .vector .0)) ≡ grantAt i counts k .vector .0) × (0 < length bytes)
   granted-vector (eight l f) =
       let v = i .number + advanced i counts k in
-      let h : answerAt i counts k .vector .0 ≡ vector Eight (i .first) v = in-order i counts k a .handed ∙ rw f in
+      let h : grantAt i counts k .vector .0 ≡ vector Eight (i .first) v = in-order i counts k a .handed ∙ rw f in
       (rw (l, h) (filled-eight (i .first) v), omega arith)
   granted-vector (sixteen l f) =
       let v = i .number + advanced i counts k in
-      let h : answerAt i counts k .vector .0 ≡ vector Sixteen (i .first) v = in-order i counts k a .handed ∙ rw f in
+      let h : grantAt i counts k .vector .0 ≡ vector Sixteen (i .first) v = in-order i counts k a .handed ∙ rw f in
       (rw (l, h) (filled-sixteen (i .first) v (first-length bytes)), omega arith)
   granted-vector (refused f) = absurd (never-again i (rw f) counts k a)
 
-  pub iv-handed-on : ivRead p aux ≡ answerAt i counts k .vector .0
+  pub iv-handed-on : ivRead p aux ≡ grantAt i counts k .vector .0
   unfolding ivRead
   iv-handed-on =
       let g = granted-vector (begun bytes) in

@@ -8,7 +8,7 @@ use lib.ListN.{length, getD}
 use Rattle.octets.specs.Answers.{answer}
 use Rattle.issuer.specs.declared.Issuer.{Issuer}
 use Rattle.issuer.specs.Issuer.{largest, issuer, exhausted, lastNumber, badCount, pastEnd, grantRows, startRows, start, after, grant}
-use Rattle.issuer.specs.Grants.{run, answerAt}
+use Rattle.issuer.specs.Grants.{run, grantAt}
 
 -- ---- The start.
 
@@ -23,8 +23,8 @@ unfolding grant grantRows answer
 answer-is i n = refl
 
 -- an answer other than 20 is 19 or 0 by the count alone
-pub by-count : (i : Issuer) (ns : List ℕ) (k : ℕ) → (answerAt i ns k .number ≡ 20 → ⊥)
-    → answerAt i ns k .number ≡ cond (badCount (getD ns k 0)) 19 0
+pub by-count : (i : Issuer) (ns : List ℕ) (k : ℕ) → (grantAt i ns k .number ≡ 20 → ⊥)
+    → grantAt i ns k .number ≡ cond (badCount (getD ns k 0)) 19 0
 unfolding run
 by-count i [] k h = answer-is exhausted 0
 by-count i (n ∷ ns) zero h = answer-is i n ∙ go (badCount n) (pastEnd i n) (λ e. h (answer-is i n ∙ e))
@@ -36,8 +36,8 @@ by-count i (n ∷ ns) zero h = answer-is i n ∙ go (badCount n) (pastEnd i n) (
 by-count i (n ∷ ns) (suc k) h = by-count (grant i n .issuer) ns k h
 
 -- so two issuers, whatever they hold, answer one list of counts the same but for 20
-pub alike-but-20 : (i j : Issuer) (ns : List ℕ) (k : ℕ) → (answerAt i ns k .number ≡ 20 → ⊥) → (answerAt j ns k .number ≡ 20 → ⊥)
-    → answerAt i ns k .number ≡ answerAt j ns k .number
+pub alike-but-20 : (i j : Issuer) (ns : List ℕ) (k : ℕ) → (grantAt i ns k .number ≡ 20 → ⊥) → (grantAt j ns k .number ≡ 20 → ⊥)
+    → grantAt i ns k .number ≡ grantAt j ns k .number
 alike-but-20 i j ns k p q = by-count i ns k p ∙ sym (by-count j ns k q)
 
 -- 20 depends on size and number, and not on the bytes before the number.
@@ -73,7 +73,7 @@ module _ {i j : Issuer} (s : Alike i j) where
       go true = alike-after (lastNumber j n)
       go false = s
 
-pub run-alike : {i j : Issuer} → Alike i j → (ns : List ℕ) (k : ℕ) → answerAt i ns k .number ≡ answerAt j ns k .number
+pub run-alike : {i j : Issuer} → Alike i j → (ns : List ℕ) (k : ℕ) → grantAt i ns k .number ≡ grantAt j ns k .number
 unfolding run grant
 run-alike s [] k = refl
 run-alike s (n ∷ ns) zero = alike-answer s n

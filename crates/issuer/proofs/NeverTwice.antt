@@ -13,7 +13,7 @@ use Rattle.issuer.specs.declared.IvSize.{IvSize}
 use Rattle.issuer.specs.declared.IvSize.the-variants.{Eight, Sixteen}
 use Rattle.issuer.specs.declared.Issuer.{Issuer}
 use Rattle.issuer.specs.Issuer.{largest, vector, advance, start}
-use Rattle.issuer.specs.Grants.{answerAt, advanced, Covers}
+use Rattle.issuer.specs.Grants.{grantAt, advanced, Covers}
 use Rattle.issuer.proofs.Order.{in-order, advanced-later}
 use Rattle.issuer.proofs.Starting.{first-length}
 
@@ -78,15 +78,15 @@ module _ (i : Issuer) (l : length (i .first) ≡ 8) (ns : List ℕ) where
   at k = i .number + advanced i ns k
 
   -- block a of accepted grant k
-  module _ (k a : ℕ) (h : answerAt i ns k .number ≡ 0) (n : a < getD ns k 0) where
+  module _ (k a : ℕ) (h : grantAt i ns k .number ≡ 0) (n : a < getD ns k 0) where
     number-below : at k ≤ largest
     number-below = omega (arith, in-order i ns k h .below)
 
     taken-below : takenUp (i .size) (at k) a ≤ largest
     taken-below = within (i .size) (at k) (getD ns k 0) a n (in-order i ns k h .below)
 
-  module _ (j k a b : ℕ) (hj : answerAt i ns j .number ≡ 0) (hk : answerAt i ns k .number ≡ 0) (nj : a < getD ns j 0)
-      (nk : b < getD ns k 0) (e : counterAt (answerAt i ns j .vector .0) a ≡ counterAt (answerAt i ns k .vector .0) b) where
+  module _ (j k a b : ℕ) (hj : grantAt i ns j .number ≡ 0) (hk : grantAt i ns k .number ≡ 0) (nj : a < getD ns j 0)
+      (nk : b < getD ns k 0) (e : counterAt (grantAt i ns j .vector .0) a ≡ counterAt (grantAt i ns k .vector .0) b) where
     same-taken : takenUp (i .size) (at j) a ≡ takenUp (i .size) (at k) b
     same-taken =
         same-number (i .first) l (at j) (at k) a b (number-below j a hj nj) (number-below k b hk nk) (i .size) (taken-below j a hj nj)
@@ -104,7 +104,7 @@ module _ (bytes counts : List ℕ) (j k : ℕ) (block : List ℕ) (p : Covers by
   abbrev i : Issuer
   i = start bytes .issuer
 
-  same-block : counterAt (answerAt i counts j .vector .0) (p .step) ≡ counterAt (answerAt i counts k .vector .0) (q .step)
+  same-block : counterAt (grantAt i counts j .vector .0) (p .step) ≡ counterAt (grantAt i counts k .vector .0) (q .step)
   same-block = sym (p .there) ∙ q .there
 
   same-grant : j ≡ k
@@ -119,10 +119,10 @@ module _ (bytes counts : List ℕ) (j k : ℕ) (block : List ℕ) (p : Covers by
       let g = in-order i counts j (p .accepted) in
       let h = in-order i counts k (q .accepted) in
       let v = vector-length (i .first) (first-length bytes) (i .size) (i .number + advanced i counts j) in
-      let l : length (answerAt i counts j .vector .0) ≡ 16 = rw (g .handed) v in
-      distinct (answerAt i counts j .vector .0) (omega arith) (p .step) (q .step) (omega (arith, p .named, g .few))
+      let l : length (grantAt i counts j .vector .0) ≡ 16 = rw (g .handed) v in
+      distinct (grantAt i counts j .vector .0) (omega arith) (p .step) (q .step) (omega (arith, p .named, g .few))
       (omega (arith, q .named, h .few))
-      (same-block ∙ ap (λ (n : ℕ). counterAt (answerAt i counts n .vector .0) (q .step)) (sym same-grant))
+      (same-block ∙ ap (λ (n : ℕ). counterAt (grantAt i counts n .vector .0) (q .step)) (sym same-grant))
 
   pub never-twice : (j ≡ k) × (p .step ≡ q .step)
   never-twice = (same-grant, same-step)

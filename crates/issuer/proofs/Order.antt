@@ -10,7 +10,7 @@ use borrow.Author.Tests.{eqb-true, eqb-false, ne-eqb}
 use Rattle.octets.specs.Answers.{answer}
 use Rattle.issuer.specs.declared.Issuer.{Issuer}
 use Rattle.issuer.specs.Issuer.{largest, mostBlocks, issuer, exhausted, vector, advance, lastNumber, grantRows, after, grant}
-use Rattle.issuer.specs.Grants.{run, answerAt, advanced}
+use Rattle.issuer.specs.Grants.{run, grantAt, advanced}
 use Rattle.issuer.proofs.Granting.{advance-some, grant-refused, grant-accepted, Accepted, accepted}
 
 -- ---- One grant.
@@ -61,13 +61,13 @@ unfolding grant grantRows answer
 past-end h = omega arith
 
 -- a used-up issuer grants nothing
-pub never-again : (i : Issuer) → i .«used_up» ≡ true → (ns : List ℕ) (k : ℕ) → answerAt i ns k .number ≡ 0 → ⊥
+pub never-again : (i : Issuer) → i .«used_up» ≡ true → (ns : List ℕ) (k : ℕ) → grantAt i ns k .number ≡ 0 → ⊥
 unfolding run
 never-again i u [] k h = past-end h
 never-again i u (n ∷ ns) zero h = true≢false (sym u ∙ accepted i n (sym (number-is i n) ∙ h) .left)
 never-again i u (n ∷ ns) (suc k) h = go (outcome i n) (never-again i u ns k)
   where
-    go : Outcome i n → (answerAt i ns k .number ≡ 0 → ⊥) → ⊥
+    go : Outcome i n → (grantAt i ns k .number ≡ 0 → ⊥) → ⊥
     go (refused r e) next = next (rw e at h)
     go (further a z e) next = true≢false (sym u ∙ a .left)
     go (finished a z e) next = true≢false (sym u ∙ a .left)
@@ -75,7 +75,7 @@ never-again i u (n ∷ ns) (suc k) h = go (outcome i n) (never-again i u ns k)
 -- What accepted grant k of a list hands out: the start vector of the first number, advanced by the accepted ones before it. Its
 -- count is allowed, and no number that it covers passes the largest.
 pub record Granting (i : Issuer) (ns : List ℕ) (k : ℕ) : Type 0 where
-  pub handed : answerAt i ns k .vector .0 ≡ vector (i .size) (i .first) (i .number + advanced i ns k)
+  pub handed : grantAt i ns k .vector .0 ≡ vector (i .size) (i .first) (i .number + advanced i ns k)
   pub some : 1 ≤ getD ns k 0
   pub few : getD ns k 0 ≤ mostBlocks
   pub below : i .number + advanced i ns k + (advance (i .size) (getD ns k 0) - 1) ≤ largest
@@ -110,7 +110,7 @@ module _ (i : Issuer) (n : ℕ) (ns : List ℕ) (k d : ℕ) (u : Bool) where
         below = rw (e, a, ← s) (g .below);
       }
 
-pub in-order : (i : Issuer) (ns : List ℕ) (k : ℕ) → answerAt i ns k .number ≡ 0 → Granting i ns k
+pub in-order : (i : Issuer) (ns : List ℕ) (k : ℕ) → grantAt i ns k .number ≡ 0 → Granting i ns k
 unfolding run
 in-order i [] k h = absurd (past-end h)
 in-order i (n ∷ ns) zero h = granted-first i n ns h
@@ -134,7 +134,7 @@ kept i n = go (outcome i n)
     go (finished a z e) = (rw e, rw e)
 
 -- a later grant lies past all numbers of an accepted one
-pub advanced-later : (i : Issuer) (ns : List ℕ) (j k : ℕ) → j < k → answerAt i ns j .number ≡ 0
+pub advanced-later : (i : Issuer) (ns : List ℕ) (j k : ℕ) → j < k → grantAt i ns j .number ≡ 0
     → advanced i ns j + advance (i .size) (getD ns j 0) ≤ advanced i ns k
 unfolding run advanced
 advanced-later i [] j k l h = absurd (past-end h)

@@ -5,24 +5,23 @@ use mathlib.Core.Path.{_≡_, refl, sym, _∙_}
 use Prim.Native.Nat.{ℕ, zero, suc, _+_, _≤_, _<_}
 use native.Mathlib.Omega.{arith}
 use lib.Dec.{eqb}
-use lib.ListN.{length, getD, drop, replicate, length-drop, take-append-drop}
-use lib.Seq.{take-all}
+use lib.ListN.{length, getD, take, drop, replicate, length-drop, take-append-drop}
+use lib.Seq.{length-take-le, take-all}
 use borrow.Author.Tests.{eqb-true, eqb-false, eq-eqb, ne-eqb}
 use Rattle.octets.specs.Answers.{answer}
 use Rattle.octets.specs.Bytes.{number, filled}
-use Rattle.octets.proofs.Bytes.{digits-number, filled-short, filled-long, filled-all}
-use Rattle.sample.proofs.Accepted.{filled-length}
+use Rattle.octets.proofs.Bytes.{digits-number, filled-short, filled-all}
 use Rattle.issuer.specs.declared.IvSize.the-variants.{Eight, Sixteen}
 use Rattle.issuer.specs.declared.Issuer.{Issuer}
 use Rattle.issuer.specs.Issuer.{issuer, exhausted, startRows, started, start, vector, grant}
-use Rattle.issuer.specs.Grants.{run, answerAt, advanced}
+use Rattle.issuer.specs.Grants.{run, grantAt, advanced}
 use Rattle.issuer.proofs.Order.{never-again, in-order}
 
 abbrev startedEight : List ℕ → Issuer
 startedEight bytes = issuer Eight (replicate 8 0) (number 8 bytes 0) false
 
 abbrev startedSixteen : List ℕ → Issuer
-startedSixteen bytes = issuer Sixteen (filled 8 bytes) (number 8 bytes 8) false
+startedSixteen bytes = issuer Sixteen (take 8 bytes) (number 8 bytes 8) false
 
 -- A start of 8 bytes, of 16, or refused.
 pub data Begun (bytes : List ℕ) : Type 0 where
@@ -57,13 +56,13 @@ module _ (bytes : List ℕ) where
     where
       go : Begun bytes → length (start bytes .issuer .first) ≡ 8
       go (eight l e) = rw e
-      go (sixteen l e) = rw e (filled-length 8 bytes)
+      go (sixteen l e) = rw e (length-take-le 8 bytes (omega arith))
       go (refused e) = rw e
 
 -- ---- The first grant.
 
 -- none accepted before it, so the number stands where it began
-not-advanced : (i : Issuer) (ns : List ℕ) (k : ℕ) → ((j : ℕ) → j < k → answerAt i ns j .number ≡ 0 → ⊥) → advanced i ns k ≡ 0
+not-advanced : (i : Issuer) (ns : List ℕ) (k : ℕ) → ((j : ℕ) → j < k → grantAt i ns j .number ≡ 0 → ⊥) → advanced i ns k ≡ 0
 unfolding run advanced
 not-advanced i ns zero h = refl
 not-advanced i [] (suc k) h = refl
@@ -81,13 +80,13 @@ module _ (bytes : List ℕ) (small : (i : ℕ) → getD bytes i 0 < 256) where
       rw (e, digits-number 8 bytes 0 small (omega arith), take-all 8 bytes (omega arith)) (sym (filled-short 16 bytes (omega arith) ∙ rw l))
   start-vector (sixteen l e) u =
       let d : length (drop 8 bytes) ≤ 8 = simp length-drop (omega arith) in
-      rw (e, filled-long 8 bytes (omega arith), digits-number 8 bytes 8 small (omega arith), take-all 8 (drop 8 bytes) d)
+      rw (e, digits-number 8 bytes 8 small (omega arith), take-all 8 (drop 8 bytes) d)
       (take-append-drop 8 bytes ∙ sym (filled-all 16 bytes l))
   start-vector (refused e) u = absurd (u (rw e))
 
   -- the first accepted grant hands out the start, filled out
-  pub first-grant : (counts : List ℕ) (k : ℕ) → ((j : ℕ) → j < k → answerAt (start bytes .issuer) counts j .number ≡ 0 → ⊥)
-      → answerAt (start bytes .issuer) counts k .number ≡ 0 → answerAt (start bytes .issuer) counts k .vector .0 ≡ filled 16 bytes
+  pub first-grant : (counts : List ℕ) (k : ℕ) → ((j : ℕ) → j < k → grantAt (start bytes .issuer) counts j .number ≡ 0 → ⊥)
+      → grantAt (start bytes .issuer) counts k .number ≡ 0 → grantAt (start bytes .issuer) counts k .vector .0 ≡ filled 16 bytes
   first-grant counts k h a =
       let i = start bytes .issuer in
       let z : i .number + advanced i counts k ≡ i .number = omega (arith, not-advanced i counts k h) in

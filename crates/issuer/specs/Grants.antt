@@ -16,8 +16,8 @@ run i [] = []
 run i (n ∷ ns) = grant i n ∷ run (grant i n .issuer) ns
 
 -- What grant k of them answers, counted from 0.
-abbrev pub answerAt : Issuer → List ℕ → ℕ → Granted
-answerAt i ns k = getD (run i ns) k (grant exhausted 0)
+abbrev pub grantAt : Issuer → List ℕ → ℕ → Granted
+grantAt i ns k = getD (run i ns) k (grant exhausted 0)
 
 -- By how much the accepted ones among the first k advanced the number.
 unfoldable pub advanced : Issuer → List ℕ → ℕ → ℕ
@@ -27,7 +27,7 @@ advanced i (n ∷ ns) (suc k) = cond (eqb (grant i n .number) 0) (advance (i .si
 
 -- Grant k from a start's bytes is accepted and covers a counter block: one of as many as it named, from its start vector on.
 pub record Covers (bytes counts : List ℕ) (k : ℕ) (block : List ℕ) : Type 0 where
-  pub accepted : answerAt (start bytes .issuer) counts k .number ≡ 0
+  pub accepted : grantAt (start bytes .issuer) counts k .number ≡ 0
   pub step : ℕ
   pub named : step < getD counts k 0
-  pub there : block ≡ counterAt (answerAt (start bytes .issuer) counts k .vector .0) step
+  pub there : block ≡ counterAt (grantAt (start bytes .issuer) counts k .vector .0) step

@@ -3,9 +3,9 @@ use mathlib.Core.Bool.{Bool, true, false, cond, not, _||_}
 use mathlib.Core.List.{List, [], _∷_, _++_}
 use Prim.Native.Nat.{ℕ, _+_, _-_}
 use lib.Dec.{eqb, ltb}
-use lib.ListN.{length, replicate}
+use lib.ListN.{length, take, replicate}
 use Rattle.octets.specs.Answers.{Row, row, answer}
-use Rattle.octets.specs.Bytes.{number, digits, filled}
+use Rattle.octets.specs.Bytes.{number, digits}
 use Rattle.track.specs.Track.{zeros}
 use Rattle.issuer.specs.declared.IvSize.{IvSize}
 use Rattle.issuer.specs.declared.IvSize.the-variants.{Eight, Sixteen}
@@ -33,11 +33,11 @@ exhausted = issuer Eight (replicate 8 0) 0 true
 unfoldable pub startRows : List ℕ → List Row
 startRows bytes = row 31 (not (eqb (length bytes) 8 || eqb (length bytes) 16)) ∷ []
 
--- In size 16 the last eight bytes are the number.
+-- In size 16 the first eight bytes stay, and the low 64 bits are the number.
 unfoldable pub started : List ℕ → Issuer
 started bytes =
     cond (eqb (length bytes) 8) (issuer Eight (replicate 8 0) (number 8 bytes 0) false)
-    (issuer Sixteen (filled 8 bytes) (number 8 bytes 8) false)
+    (issuer Sixteen (take 8 bytes) (number 8 bytes 8) false)
 
 unfoldable pub start : List ℕ → Started
 start bytes =

@@ -1,6 +1,7 @@
 // The kinds of lines, each answered by a function of its own.
 use crate::auxiliary;
 use crate::boxes;
+use crate::issuers;
 use crate::output;
 use crate::output::Buffer;
 use crate::samples;
@@ -39,6 +40,9 @@ pub(crate) fn answer(
     }
     if octets::same(kind, b"record") {
         return streams::given(line, bytes, lent, out, at);
+    }
+    if octets::same(kind, b"issuer") {
+        return issuers::grants(line, bytes, out, at);
     }
     output::malformed(out, at)
 }

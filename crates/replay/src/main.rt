@@ -2,6 +2,7 @@
 mod auxiliary;
 mod boxes;
 mod calls;
+mod issuers;
 mod output;
 mod records;
 mod replies;
