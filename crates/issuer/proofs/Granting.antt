@@ -25,7 +25,7 @@ use Rattle.issuer.specs.Issuer.{largest, mostBlocks, vector, advance, la
 pub advance-some : (s : IvSize) (n : ℕ) → 1 ≤ n → 1 ≤ advance s n
 unfolding advance
 advance-some Eight n h = omega arith
-advance-some Sixteen n h = h
+advance-some Sixteen n h = omega arith
 
 -- what an allowed count is
 pub count-some : (n : ℕ) → badCount n ≡ false → 1 ≤ n
