@@ -1,8 +1,9 @@
-// A sample fed in pieces of one size, from C: for measurements.
+// A sample opened in pieces of one size, from C: for measurements.
 ghost use mathlib.Core.Path.{_≡_};
-ghost use Prim.Native.Nat.{_≤_, min};
+ghost use Prim.Native.Nat.{min, max};
 ghost use lib.ListN.{length};
-ghost use Rattle.stream.specs.Stream as spec;
+ghost use Rattle.stream.specs.Stream as streams;
+ghost use Rattle.pieces.specs.Pieces as spec;
 use modes::Direction;
 use stream::Fed;
 use stream::Stream;
@@ -16,41 +17,21 @@ fn least(a: usize, b: usize) -> usize
 }
 
 fn at_least_one(n: usize) -> usize
-    ensures { λ r. ⌜ 1 ≤ r ⌝ }
+    ensures { λ r. ⌜ r ≡ max n 1 ⌝ }
 {
     if n == 0 { 1 } else { n }
 }
 
 // Feeds a record by value, or one that is changed where it lies.
 fn feed(in_place: bool, stream: Stream, piece: &[u8], out: &mut [u8]) -> Fed
-    ensures { λ r. ⌜ (r ≡ spec.feed stream (now (piece .entry)) (length (now (out .entry)))) × (length (now (out .exit)) ≡ length (now (out .entry))) ⌝ }
+    ensures { λ r. ⌜ (r ≡ streams.feed stream (now (piece .entry)) (length (now (out .entry))))
+        × (now (out .exit) ≡ streams.outputAfter stream (now (piece .entry)) (now (out .entry))) ⌝ }
 {
     if in_place {
         in_place::feed_lent(stream, piece, out)
     } else {
         stream::feed(stream, piece, out)
     }
-}
-
-// Feeds a stream with pieces of `size` bytes and ends it; answers the first refusal.
-fn feed_all(in_place: bool, first: Stream, size: usize, data: &[u8], out: &mut [u8]) -> u8
-    requires { ⌜ 1 ≤ size ⌝ }
-{
-    let mut stream = first;
-    let mut at = 0;
-    let mut done = 0;
-    while at < data.len() {
-        let end = at + least(size, data.len() - at);
-        let fed = feed(in_place, stream, &data[at..end], &mut out[done..]);
-        if fed.number != DONE {
-            return fed.number;
-        }
-        let next = fed.stream;
-        stream = next;
-        done += fed.released;
-        at = end;
-    }
-    stream::end(stream).number
 }
 
 // Opens a sample in pieces of `size` bytes, at least one, into an output, by value or in place; answers 0 or the first refusal.
@@ -65,7 +46,8 @@ pub extern "C" fn pieces_open(
     data: &[u8],
     out: &mut [u8],
 ) -> u8
-    ensures { λ r. ⌜ length (now (out .exit)) ≡ length (now (out .entry)) ⌝ }
+    ensures { λ r. ⌜ (r ≡ spec.number (now (scheme .entry)) (now («track_box» .entry)) (now (auxiliary .entry)) (now («key_record» .entry)) (now («data» .entry)) size (now (out .entry)))
+        × (now (out .exit) ≡ spec.output (now (scheme .entry)) (now («track_box» .entry)) (now (auxiliary .entry)) (now («key_record» .entry)) (now («data» .entry)) size (now (out .entry))) ⌝ }
 {
     let started = stream::start(
         Direction::Open,
@@ -78,6 +60,20 @@ pub extern "C" fn pieces_open(
     if started.number != DONE {
         return started.number;
     }
-    let stream = started.stream;
-    feed_all(in_place, stream, at_least_one(size), data, out)
+    let most = at_least_one(size);
+    let mut stream = started.stream;
+    let mut at = 0;
+    let mut done = 0;
+    while at < data.len() {
+        let end = at + least(most, data.len() - at);
+        let fed = feed(in_place, stream, &data[at..end], &mut out[done..]);
+        if fed.number != DONE {
+            return fed.number;
+        }
+        let next = fed.stream;
+        stream = next;
+        done += fed.released;
+        at = end;
+    }
+    stream::end(stream).number
 }

@@ -90,7 +90,7 @@ module _ (t : Stream) where
 -- ---- From a start.
 
 module _ (d : Direction) (code box aux keys : List ℕ) (n : ℕ) (hb : (i : ℕ) → getD box i 0 < 256)
-    (ha : (i : ℕ) → getD aux i 0 < 256) (h : start d code box aux keys n .number ≡ 0) (calls : List Call) where
+    (ha : (i : ℕ) → getD aux i 0 < 256) (h : start d code box aux keys n .number ≡ 0) where
   abbrev p : Parameters
   p = fields code box
 
@@ -103,35 +103,18 @@ module _ (d : Direction) (code box aux keys : List ℕ) (n : ℕ) (hb : (i : ℕ
   abbrev iv : List ℕ
   iv = ivRead p aux
 
-  abbrev a : List ℕ
-  a = pieces code box aux n calls
-
-  abbrev x : ℕ
-  x = length a
-
-  accepts : answer (sampleRows code box aux keys n) ≡ 0
+  pub accepts : answer (sampleRows code box aux keys n) ≡ 0
   unfolding start
   accepts = h
 
-  begun : start d code box aux keys n .stream ≡ at d p m n key iv []
+  -- the record of the start is the one after no pieces
+  pub begun : start d code box aux keys n .stream ≡ at d p m n key iv []
   unfolding start started at feedUnder machine.feedSample machine.feed
   begun = rw (eq-eqb (answer (sampleRows code box aux keys n)) 0 accepts)
-
-  ran : Runs d p m n key iv [] calls
-  ran = runs d p m n key iv (rules code box aux keys n accepts) calls [] (omega arith)
 
   fed-none : fed d p m n key iv [] .released ≡ []
   unfolding feedUnder machine.feedSample machine.feed
   fed-none = refl
-
-  joined : released (run (start d code box aux keys n .stream) calls) ≡ fed d p m n key iv a .released
-  joined = rw begun (rw fed-none at (ran .released))
-
-  ended : end (recordAfter (start d code box aux keys n .stream) calls) .number ≡ ending (heldFrom code box aux n) n x .number
-  unfolding make replyAt
-  ended =
-      rw (begun, ran .last)
-      (ap (λ (y : Reply). y .number) (moves d p m n key iv a (rules code box aux keys n accepts) (ran .within) Ending .reply))
 
   module _ (xs : List ℕ) (l : length xs ≡ n) where
     whole-is : sampleAfter d code box aux keys xs ≡ ciphered (encipher (roundKeys key)) (decipher (roundKeys key)) d p m iv xs
@@ -141,15 +124,16 @@ module _ (d : Direction) (code box aux keys : List ℕ) (n : ℕ) (hb : (i : ℕ
     adds-up : length xs ≡ total (entriesOf p m (length xs))
     adds-up = rw l (sym (accepted-length code box aux keys n accepts))
 
-    begins-with : (rest : List ℕ) → xs ≡ a ++ rest
-        → fed d p m n key iv a .released ≡ take (x - heldUnder p m n x) (sampleAfter d code box aux keys xs)
-    begins-with rest e =
-        let t : take x xs ≡ a = ap (take x) e ∙ take-append-seam a rest in
-        let u : x ≤ length xs = omega (arith, ap length e, length-append a rest) in
+    -- what the pieces a of a sample release is the beginning of what the whole-sample call makes of it
+    pub begins-with : (a rest : List ℕ) → xs ≡ a ++ rest
+        → fed d p m n key iv a .released ≡ take (length a - heldUnder p m n (length a)) (sampleAfter d code box aux keys xs)
+    begins-with a rest e =
+        let t : take (length a) xs ≡ a = ap (take (length a)) e ∙ take-append-seam a rest in
+        let u : length a ≤ length xs = omega (arith, ap length e, length-append a rest) in
         rw whole-is
         (rw (t, l) at
         (fed-released (encipher (roundKeys key)) (decipher (roundKeys key)) (λ b k. encipher-length _ b)
-        (λ b k. decipher-length _ b) d p m iv (begins code box aux keys n accepts hb ha) xs adds-up x u))
+        (λ b k. decipher-length _ b) d p m iv (begins code box aux keys n accepts hb ha) xs adds-up (length a) u))
 
     all-of-it : fed d p m n key iv xs .released ≡ sampleAfter d code box aux keys xs
     all-of-it =
@@ -158,36 +142,57 @@ module _ (d : Direction) (code box aux keys : List ℕ) (n : ℕ) (hb : (i : ℕ
         (fed-whole (encipher (roundKeys key)) (decipher (roundKeys key)) (λ b k. encipher-length _ b)
         (λ b k. decipher-length _ b) d p m iv (begins code box aux keys n accepts hb ha) xs adds-up))
 
-  end-at : (q : Bool) → eqb x n ≡ q → ending (heldFrom code box aux n) n x .number ≡ 0 → x ≡ n
-  unfolding ending
-  end-at true e z = eqb-true x n e
-  end-at false e z = absurd (omega (arith, rw e at z))
+  -- ---- And any list of calls.
 
-  end-zero : x ≡ n → ending (heldFrom code box aux n) n x .number ≡ 0
-  unfolding ending
-  end-zero e = rw (eq-eqb x n e)
+  module _ (calls : List Call) where
+    abbrev a : List ℕ
+    a = pieces code box aux n calls
 
-  end-only : end (recordAfter (start d code box aux keys n .stream) calls) .number ≡ 0 → x ≡ n
-  end-only z = end-at (eqb x n) refl (sym ended ∙ z)
+    abbrev x : ℕ
+    x = length a
 
-  few : heldUnder p m n x ≤ 15
-  unfolding heldUnder
-  few = held-small (p .crypt) (p .skip) (schemeOf (p .code)) (entriesOf p m n) x
+    ran : Runs d p m n key iv [] calls
+    ran = runs d p m n key iv (rules code box aux keys n accepts) calls [] (omega arith)
 
-  holds : Demand3 d code box aux keys n calls
-  unfolding countAt
-  holds =
-      record {
-        replies = rw begun (ran .replies);
-        bytes = λ xs rest e l. joined ∙ begins-with xs l rest e;
-        count = ap length joined ∙ omega (arith, at-sum d p m n key iv a);
-        held-within = omega (arith, at-sum d p m n key iv a);
-        held-few = few;
-        end-done = λ e. ended ∙ end-zero e;
-        end-only = end-only;
-        all = λ z. joined ∙ all-of-it a (end-only z);
-        refused = unchanged;
-      }
+    joined : released (run (start d code box aux keys n .stream) calls) ≡ fed d p m n key iv a .released
+    joined = rw begun (rw fed-none at (ran .released))
+
+    ended : end (recordAfter (start d code box aux keys n .stream) calls) .number ≡ ending (heldFrom code box aux n) n x .number
+    unfolding make replyAt
+    ended =
+        rw (begun, ran .last)
+        (ap (λ (y : Reply). y .number) (moves d p m n key iv a (rules code box aux keys n accepts) (ran .within) Ending .reply))
+
+    end-at : (q : Bool) → eqb x n ≡ q → ending (heldFrom code box aux n) n x .number ≡ 0 → x ≡ n
+    unfolding ending
+    end-at true e z = eqb-true x n e
+    end-at false e z = absurd (omega (arith, rw e at z))
+
+    end-zero : x ≡ n → ending (heldFrom code box aux n) n x .number ≡ 0
+    unfolding ending
+    end-zero e = rw (eq-eqb x n e)
+
+    end-only : end (recordAfter (start d code box aux keys n .stream) calls) .number ≡ 0 → x ≡ n
+    end-only z = end-at (eqb x n) refl (sym ended ∙ z)
+
+    few : heldUnder p m n x ≤ 15
+    unfolding heldUnder
+    few = held-small (p .crypt) (p .skip) (schemeOf (p .code)) (entriesOf p m n) x
+
+    holds : Demand3 d code box aux keys n calls
+    unfolding countAt
+    holds =
+        record {
+          replies = rw begun (ran .replies);
+          bytes = λ xs rest e l. joined ∙ begins-with xs l a rest e;
+          count = ap length joined ∙ omega (arith, at-sum d p m n key iv a);
+          held-within = omega (arith, at-sum d p m n key iv a);
+          held-few = few;
+          end-done = λ e. ended ∙ end-zero e;
+          end-only = end-only;
+          all = λ z. joined ∙ all-of-it a (end-only z);
+          refused = unchanged;
+        }
 
 -- For every direction, code, box, auxiliary data, key record and declared length that a start accepts, and every list of calls.
 pub demand3 : (d : Direction) (code box aux keys : List ℕ) (n : ℕ)
