@@ -99,7 +99,6 @@ module _ (i : Issuer) (l : length (i .first) ≡ 8) (ns : List ℕ) where
 
 -- ---- From a start.
 
--- No two accepted grants cover the same counter block, and none covers one twice.
 module _ (bytes counts : List ℕ) (j k : ℕ) (block : List ℕ) (p : Covers bytes counts j block) (q : Covers bytes counts k block) where
   abbrev i : Issuer
   i = start bytes .issuer
@@ -124,5 +123,7 @@ module _ (bytes counts : List ℕ) (j k : ℕ) (block : List ℕ) (p : Covers by
       (omega (arith, q .named, h .few))
       (same-block ∙ ap (λ (n : ℕ). counterAt (grantAt i counts n .vector .0) (q .step)) (sym same-grant))
 
-  pub never-twice : (j ≡ k) × (p .step ≡ q .step)
-  never-twice = (same-grant, same-step)
+-- For every start and every list of grants after it: no two accepted ones cover the same counter block, and none covers one twice.
+pub never-twice : (bytes counts : List ℕ) (j k : ℕ) (block : List ℕ) (p : Covers bytes counts j block)
+    (q : Covers bytes counts k block) → (j ≡ k) × (p .step ≡ q .step)
+never-twice bytes counts j k block p q = (same-grant bytes counts j k block p q, same-step bytes counts j k block p q)

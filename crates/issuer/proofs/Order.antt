@@ -124,14 +124,13 @@ in-order i (n ∷ ns) (suc k) h = go (outcome i n) (in-order (grant i n .issuer)
         granted-later i n ns k (advance (i .size) n) false (rw z) e (rw e at g)
     go (finished a z e) g = absurd (never-again (grant i n .issuer) (rw e) ns k h)
 
--- size and first bytes stay
-kept : (i : Issuer) (n : ℕ) → (grant i n .issuer .size ≡ i .size) × (grant i n .issuer .first ≡ i .first)
-kept i n = go (outcome i n)
+size-stays : (i : Issuer) (n : ℕ) → grant i n .issuer .size ≡ i .size
+size-stays i n = go (outcome i n)
   where
-    go : Outcome i n → (grant i n .issuer .size ≡ i .size) × (grant i n .issuer .first ≡ i .first)
-    go (refused r e) = (rw e, rw e)
-    go (further a z e) = (rw e, rw e)
-    go (finished a z e) = (rw e, rw e)
+    go : Outcome i n → grant i n .issuer .size ≡ i .size
+    go (refused r e) = rw e
+    go (further a z e) = rw e
+    go (finished a z e) = rw e
 
 -- a later grant lies past all numbers of an accepted one
 pub advanced-later : (i : Issuer) (ns : List ℕ) (j k : ℕ) → j < k → grantAt i ns j .number ≡ 0
@@ -142,4 +141,4 @@ advanced-later i (n ∷ ns) j zero l h = absurd (omega arith)
 advanced-later i (n ∷ ns) zero (suc k) l h = rw h (omega arith)
 advanced-later i (n ∷ ns) (suc j) (suc k) l h =
     let next = advanced-later (grant i n .issuer) ns j k (omega arith) h in
-    omega (arith, rw (kept i n .0) at next)
+    omega (arith, rw (size-stays i n) at next)

@@ -15,7 +15,7 @@ unfoldable pub run : Issuer → List ℕ → List Granted
 run i [] = []
 run i (n ∷ ns) = grant i n ∷ run (grant i n .issuer) ns
 
--- What grant k of them answers, counted from 0.
+-- What grant k of them answers, counted from 0; past the end of the list a refusal.
 abbrev pub grantAt : Issuer → List ℕ → ℕ → Granted
 grantAt i ns k = getD (run i ns) k (grant exhausted 0)
 
