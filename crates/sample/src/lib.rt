@@ -1,9 +1,5 @@
 // A whole sample, locked and opened in place (document 01, "Which bytes are ciphered, and how").
-pub mod part;
-pub mod position;
 pub mod refusal;
-mod runs;
-mod walk;
 
 ghost use mathlib.Core.Path.{_≡_};
 ghost use lib.ListN.{length};

@@ -1,0 +1,38 @@
+use mathlib.Core.Path.{_≡_}
+use mathlib.Core.Bool.{true}
+use Rattle.scheme.specs.declared.Scheme.the-variants.{Cens, Cbcs}
+use Rattle.scheme.specs.Layout.{isCiphered}
+use Rattle.scheme.proofs.Runs.{run-cenc, some-crypt, is-cens, is-cbcs}
+use borrow.Author.Needs.{needs}
+use Rattle.part.proofs.runs.run_at.Statement.{statement}
+use Rattle.part.proofs.runs.run_at.Tie as tie
+
+pattern-run-requires : tie.Need-pattern-run-requires
+pattern-run-requires c κs =
+    let a = c .before .before .args in
+    let first : isCiphered Cens (a .crypt) (a .skip) 16 0 ≡ true = rw (c .enum-told3 .given .1) at (c .before .before .pre .0 .first) in
+    (c .before .before .pre .1, some-crypt Cens _ _ (is-cens _ _ 16) first, c .before .before .pre .0 .low, c .before .before .pre .0 .high, c .before .before .pre .2)
+
+pattern-run-requires-2 : tie.Need-pattern-run-requires-2
+pattern-run-requires-2 c κs =
+    let a = c .before .before .args in
+    let first : isCiphered Cbcs (a .crypt) (a .skip) 16 0 ≡ true = rw (c .enum-told4 .given .1) at (c .before .before .pre .0 .first) in
+    (c .before .before .pre .1, some-crypt Cbcs _ _ (is-cbcs _ _ 16) first, c .before .before .pre .0 .low, c .before .before .pre .0 .high, c .before .before .pre .2)
+
+returns : tie.Need-returns
+returns c = rw (c .enum-told .given .1) (run-cenc _ _ _ _ (c .before .before .pre .1))
+
+returns-2 : tie.Need-returns-2
+returns-2 c = rw (c .before .enum-told2 .given .1) (c .whole-run .ensures _ _)
+
+returns-3 : tie.Need-returns-3
+returns-3 c = rw (c .before .enum-told3 .given .1) (c .pattern-run .ensures .0)
+
+returns-4 : tie.Need-returns-4
+returns-4 c = rw (c .before .enum-told4 .given .1) (c .pattern-run2 .ensures .1)
+
+pub run-at-spec : {M : Type 1} → statement M
+run-at-spec =
+    tie.close
+    (tie.spec (search needs) (search needs) (search needs) (search needs) pattern-run-requires (search needs)
+    pattern-run-requires-2 returns returns-2 returns-3 returns-4)

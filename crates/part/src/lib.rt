@@ -1,0 +1,175 @@
+// The transform of a part of a sample at an offset, under parameters and a map.
+pub mod position;
+mod runs;
+mod walk;
+
+ghost use mathlib.Core.List.{[], _∷_};
+ghost use mathlib.Core.Path.{_≡_};
+ghost use Prim.Native.Nat.{_+_, _%_, _≤_};
+ghost use lib.Dec.{leb};
+ghost use lib.ListN.{length, take};
+ghost use Rattle.aes.specs.Block.{encipher, decipher};
+ghost use Rattle.scheme.specs.Layout.{schemeOf, isCiphered, entry, entries, mask, count as counted};
+ghost use Rattle.scheme.specs.Machine.{free, feedSample};
+ghost use Rattle.scheme.specs.Part.{protectedEntries, fits as fitsIn, transformed};
+ghost use Rattle.scheme.proofs.Passes.{left};
+ghost use Rattle.scheme.proofs.Walk.{SampleAsks};
+ghost use Rattle.subsample.specs.Auxiliary.{limit, longest};
+use aes::RoundKeys;
+use modes::Direction;
+use scheme::Scheme;
+use subsample::SubsampleMap;
+use track::Parameters;
+use walk::Ciphering;
+use walk::Progress;
+
+// Whether `size` bytes from a position on lie below an end.
+fn within(end: usize, from: usize, size: usize) -> bool
+    ensures { λ r. ⌜ r ≡ leb (from + size) end ⌝ }
+{
+    if end < from {
+        return false;
+    }
+    size <= end - from
+}
+
+// Whether a range of a track begins with a ciphered block.
+fn begins_ciphered(parameters: Parameters) -> bool
+    ensures { λ r. ⌜ r ≡ isCiphered (schemeOf (parameters .code)) (parameters .crypt) (parameters .skip) 16 0 ⌝ }
+{
+    let code = parameters.code;
+    runs::ciphered_at(
+        Scheme::of(code),
+        parameters.crypt as usize,
+        parameters.skip as usize,
+        16,
+        0,
+    )
+}
+
+// Whether `size` bytes from a position of a protected sample on can be ciphered where they lie.
+fn fits(
+    parameters: Parameters,
+    map: SubsampleMap,
+    sample_length: usize,
+    from: usize,
+    size: usize,
+) -> bool
+    requires { ⌜ parameters .protected ≡ 1 ⌝ }
+    ensures { λ r. ⌜ r ≡ fitsIn parameters map «sample_length» from size ⌝ }
+{
+    if SubsampleMap::LONGEST_SAMPLE < sample_length {
+        return false;
+    }
+    if !begins_ciphered(parameters) {
+        return false;
+    }
+    let end = position::total_length(map, sample_length);
+    if !within(end, from, size) {
+        return false;
+    }
+    if position::held_at(parameters, map, sample_length, from) != 0 {
+        return false;
+    }
+    position::held_at(parameters, map, sample_length, from + size) == 0
+}
+
+// The map of one entry, 0 clear.
+fn one_range(n: u32) -> SubsampleMap
+    ensures { λ r. ⌜ (entries (r .clear) (r .protected) (r .count) ≡ entry 0 n ∷ []) × (r .count ≤ limit) ⌝ }
+{
+    let mut protected = [0u32; SubsampleMap::LIMIT];
+    protected[0] = n;
+    SubsampleMap {
+        clear: [0; SubsampleMap::LIMIT],
+        protected,
+        count: 1,
+    }
+}
+
+// The entries of a protected sample, as a map with at least one.
+fn written(map: SubsampleMap, sample_length: usize) -> SubsampleMap
+    requires { ⌜ «sample_length» ≤ longest ⌝ }
+    ensures { λ r. ⌜ (entries (r .clear) (r .protected) (r .count) ≡ protectedEntries map «sample_length») × (r .count ≤ limit) ⌝ }
+{
+    let count = map.count;
+    if count == 0 {
+        return one_range(sample_length as u32);
+    }
+    let clear = map.clear;
+    let protected = map.protected;
+    SubsampleMap {
+        clear,
+        protected,
+        count: runs::least(count, SubsampleMap::LIMIT),
+    }
+}
+
+// Ciphers a part that fits.
+fn cipher_part(
+    keys: RoundKeys,
+    how: Ciphering,
+    map: SubsampleMap,
+    sample_length: usize,
+    from: usize,
+    block: [u8; 16],
+    part: &mut [u8],
+) -> [u8; 16]
+    requires { ⌜ («sample_length» ≤ longest)
+        × (SampleAsks (how .scheme) (how .crypt) (how .skip) (protectedEntries map «sample_length») from (length (now part))
+        (counted (take from (mask (how .scheme) (how .crypt) (how .skip) (protectedEntries map «sample_length»))) % 16)) ⌝ }
+    ensures { λ r. ⌜ feedSample (encipher keys) (decipher keys) (how .direction) (how .scheme) (how .crypt) (how .skip) (how .iv)
+        (protectedEntries map «sample_length») (free from block) (now (part .entry))
+        ≡ left (from + length (now (part .entry))) r (now (part .exit)) ⌝ }
+{
+    let scheme = how.scheme;
+    let used = position::used_at(scheme, how.crypt, how.skip, map, sample_length, from);
+    let entries = written(map, sample_length);
+    let clear = entries.clear;
+    let protected = entries.protected;
+    let count = entries.count;
+    let after = walk::sample_part(
+        keys,
+        how,
+        clear,
+        protected,
+        count,
+        from,
+        Progress { block, used },
+        part,
+    );
+    after.block
+}
+
+// Ciphers the bytes of a sample of some length from a position on where they lie, with the counter or chain block before them;
+// answers the block after them. Where they do not fit nothing changes.
+pub fn transform(
+    keys: RoundKeys,
+    direction: Direction,
+    parameters: Parameters,
+    map: SubsampleMap,
+    sample_length: usize,
+    from: usize,
+    block: [u8; 16],
+    part: &mut [u8],
+) -> [u8; 16]
+    ensures { λ r. ⌜ (now (part .exit) ≡ transformed (encipher keys) (decipher keys) direction parameters map «sample_length» from block (now (part .entry)) .released)
+        × (r ≡ transformed (encipher keys) (decipher keys) direction parameters map «sample_length» from block (now (part .entry)) .state .block) ⌝ }
+{
+    if parameters.protected != 1 {
+        return block;
+    }
+    if !fits(parameters, map, sample_length, from, part.len()) {
+        return block;
+    }
+    let code = parameters.code;
+    let iv = parameters.constant_iv;
+    let how = Ciphering {
+        direction,
+        scheme: Scheme::of(code),
+        crypt: parameters.crypt as usize,
+        skip: parameters.skip as usize,
+        iv: iv.bytes(),
+    };
+    cipher_part(keys, how, map, sample_length, from, block, part)
+}
