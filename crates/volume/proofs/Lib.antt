@@ -1,0 +1,12 @@
+pub mod Fields
+pub mod Entries
+pub mod Room
+pub mod Placing
+pub mod Valid
+pub mod Records
+pub mod Adding
+pub mod Disposal
+pub mod WrittenOnce
+pub mod NeverEarly
+pub mod Depends
+pub mod Examples
