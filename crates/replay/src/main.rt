@@ -9,6 +9,7 @@ mod replies;
 mod samples;
 mod streams;
 mod values;
+mod volumes;
 mod words;
 
 use calls::Bytes;

@@ -1,0 +1,17 @@
+use mathlib.Core.Path.{ap}
+use lib.ListN.{length}
+use Rattle.volume.proofs.Adding.{empty-within}
+use borrow.Author.Needs.{needs}
+use native.Mathlib.Omega.{arith}
+use Rattle.replay.proofs.volumes.answer_empty.Statement.{statement}
+use Rattle.replay.proofs.volumes.answer_empty.Tie as tie
+
+written-requires : tie.Need-written-requires
+written-requires c κs =
+    let e = c .before .before .before .before .empty in
+    omega (arith, ap (λ w. w .length) (e .ensures .0), empty-within (length (c .before .before .before .before .before .before .before .args .lent .now)), e .kept .0)
+
+pub answer-empty-spec : {M : Type 1} → statement M
+answer-empty-spec =
+    tie.close
+    (tie.spec (search needs) written-requires (search needs) (search needs))
