@@ -1,4 +1,6 @@
-//! The published vectors, worked out again, a long chain of blocks under changing keys, and document 01's samples.
+//! The published vectors, worked out again, a long chain of blocks under changing keys, document 01's samples, and calls on volumes.
+
+mod volumes;
 
 use crate::track::{self, Parameters};
 use crate::{aes, hex, sample, subsample};
@@ -44,7 +46,8 @@ pub fn print(out: &mut impl Write) -> io::Result<()> {
     fips_197(out)?;
     sp_800_38a(out)?;
     chained(out)?;
-    samples(out)
+    samples(out)?;
+    volumes::print(out)
 }
 
 fn fips_197(out: &mut impl Write) -> io::Result<()> {

@@ -1,5 +1,7 @@
-// The published vectors of FIPS 197 and SP 800-38A, chained blocks under changing keys, and document 01's samples 1 to 5 and
-// 8 to 11, a line each.
+// The published vectors of FIPS 197 and SP 800-38A, chained blocks under changing keys, document 01's samples 1 to 5 and 8 to 11,
+// and calls on volumes, a line each.
+mod volumes;
+
 use aes::Block;
 use aes::Key;
 use aes::RoundKeys;
@@ -340,9 +342,8 @@ fn samples() {
     sample_line(b"sample 11 scheme and box ", b"cenx", b"tenc", 0, b"");
 }
 
-fn main() {
-    let keys = key_of(b"\x2b\x7e\x15\x16\x28\xae\xd2\xa6\xab\xf7\x15\x88\x09\xcf\x4f\x3c");
-    key_expansion(keys);
+// FIPS 197, appendix B.
+fn cipher_example(keys: RoundKeys) {
     block_line(
         b"FIPS 197 B enciphered ",
         block_of(b"\x32\x43\xf6\xa8\x88\x5a\x30\x8d\x31\x31\x98\xa2\xe0\x37\x07\x34").encipher(
@@ -355,6 +356,10 @@ fn main() {
             keys,
         ),
     );
+}
+
+// FIPS 197, appendix C.1.
+fn example_vectors() {
     let counted = key_of(b"\x00\x01\x02\x03\x04\x05\x06\x07\x08\x09\x0a\x0b\x0c\x0d\x0e\x0f");
     block_line(
         b"FIPS 197 C.1 enciphered ",
@@ -368,14 +373,20 @@ fn main() {
             counted,
         ),
     );
+}
+
+// SP 800-38A, F.1.1 and F.1.2.
+fn codebooks(keys: RoundKeys) {
     let mut plain =
         *b"\x6b\xc1\xbe\xe2\x2e\x40\x9f\x96\xe9\x3d\x7e\x11\x73\x93\x17\x2a\xae\x2d\x8a\x57\x1e\x03\xac\x9c\x9e\xb7\x6f\xac\x45\xaf\x8e\x51\x30\xc8\x1c\x46\xa3\x5c\xe4\x11\xe5\xfb\xc1\x19\x1a\x0a\x52\xef\xf6\x9f\x24\x45\xdf\x4f\x9b\x17\xad\x2b\x41\x7b\xe6\x6c\x37\x10";
     codebook(b"SP 800-38A F.1.1 block ", keys, false, &mut plain);
     let mut cipher =
         *b"\x3a\xd7\x7b\xb4\x0d\x7a\x36\x60\xa8\x9e\xca\xf3\x24\x66\xef\x97\xf5\xd3\xd5\x85\x03\xb9\x69\x9d\xe7\x85\x89\x5a\x96\xfd\xba\xaf\x43\xb1\xcd\x7f\x59\x8e\xce\x23\x88\x1b\x00\xe3\xed\x03\x06\x88\x7b\x0c\x78\x5e\x27\xe8\xad\x3f\x82\x23\x20\x71\x04\x72\x5d\xd4";
     codebook(b"SP 800-38A F.1.2 block ", keys, true, &mut cipher);
-    chaining();
-    counter();
+}
+
+// 100 blocks under each of 1,000 keys, and all of it back.
+fn chains() {
     let first = octets::sixteen(
         b"\x00\x01\x02\x03\x04\x05\x06\x07\x08\x09\x0a\x0b\x0c\x0d\x0e\x0f",
     );
@@ -387,5 +398,17 @@ fn main() {
         },
     );
     back_all(b" deciphered ", last);
+}
+
+fn main() {
+    let keys = key_of(b"\x2b\x7e\x15\x16\x28\xae\xd2\xa6\xab\xf7\x15\x88\x09\xcf\x4f\x3c");
+    key_expansion(keys);
+    cipher_example(keys);
+    example_vectors();
+    codebooks(keys);
+    chaining();
+    counter();
+    chains();
     samples();
+    volumes::volumes();
 }

@@ -1,0 +1,25 @@
+use mathlib.Core.Path.{ap}
+use Rattle.volume.proofs.Records.{found-within}
+use borrow.Author.Needs.{needs}
+use native.Mathlib.Omega.{arith}
+use Rattle.vectors.proofs.volumes.record_line.Statement.{statement}
+use Rattle.vectors.proofs.volumes.record_line.Tie as tie
+
+add-end : tie.Need-add-end
+add-end c =
+    let a = c .before .before .before .args in
+    let e = c .before .«record» .ensures in
+    omega (arith, ap (λ f. f .offset) e, ap (λ f. f .length) e, found-within (a .volume .now) (a .number))
+
+part-print-all-end : tie.Need-part-print-all-end
+part-print-all-end c =
+    let a = c .before .before .before .before .before .before .before .before .before .args in
+    let e = c .before .before .before .before .before .before .before .«record» .ensures in
+    omega (arith, ap (λ f. f .offset) e, ap (λ f. f .length) e, found-within (a .volume .now) (a .number))
+
+pub record-line-spec : {M : Type 1} → statement M
+record-line-spec =
+    tie.close
+    (tie.spec (search needs) add-end (search needs) (search needs) (search needs) (search needs) (search needs)
+    (search needs) (search needs) (search needs) part-print-all-end (search needs) (search needs) (search needs)
+    (search needs))
