@@ -8,6 +8,7 @@ use modes::Direction;
 use stream::Fed;
 use stream::Stream;
 use stream::in_place;
+use stream::refusal::OUTPUT;
 use track::refusal::DONE;
 
 fn least(a: usize, b: usize) -> usize
@@ -34,7 +35,7 @@ fn feed(in_place: bool, stream: Stream, piece: &[u8], out: &mut [u8]) -> Fed
     }
 }
 
-// Opens a sample in pieces of `size` bytes, at least one, into an output, by value or in place; answers 0 or the first refusal.
+// Opens a sample in pieces of `size` bytes, at least one, into an output, by value or in place.
 #[no_mangle]
 pub extern "C" fn pieces_open(
     scheme: &[u8],
@@ -46,8 +47,8 @@ pub extern "C" fn pieces_open(
     data: &[u8],
     out: &mut [u8],
 ) -> u8
-    ensures { λ r. ⌜ (r ≡ spec.number (now (scheme .entry)) (now («track_box» .entry)) (now (auxiliary .entry)) (now («key_record» .entry)) (now («data» .entry)) size (now (out .entry)))
-        × (now (out .exit) ≡ spec.output (now (scheme .entry)) (now («track_box» .entry)) (now (auxiliary .entry)) (now («key_record» .entry)) (now («data» .entry)) size (now (out .entry))) ⌝ }
+    ensures { λ r. ⌜ (r ≡ spec.number (now (scheme .entry)) (now («track_box» .entry)) (now (auxiliary .entry)) (now («key_record» .entry)) (now («data» .entry)) (now (out .entry)))
+        × (now (out .exit) ≡ spec.output (now (scheme .entry)) (now («track_box» .entry)) (now (auxiliary .entry)) (now («key_record» .entry)) (now («data» .entry)) (now (out .entry))) ⌝ }
 {
     let started = stream::start(
         Direction::Open,
@@ -60,16 +61,17 @@ pub extern "C" fn pieces_open(
     if started.number != DONE {
         return started.number;
     }
+    if out.len() < data.len() {
+        return OUTPUT;
+    }
     let most = at_least_one(size);
     let mut stream = started.stream;
     let mut at = 0;
     let mut done = 0;
     while at < data.len() {
         let end = at + least(most, data.len() - at);
+        // Not refused: the output has room for the whole sample.
         let fed = feed(in_place, stream, &data[at..end], &mut out[done..]);
-        if fed.number != DONE {
-            return fed.number;
-        }
         let next = fed.stream;
         stream = next;
         done += fed.released;

@@ -125,7 +125,7 @@ module _ (d : Direction) (code box aux keys : List ℕ) (n : ℕ) (hb : (i : ℕ
     adds-up = rw l (sym (accepted-length code box aux keys n accepts))
 
     -- what the pieces a of a sample release is the beginning of what the whole-sample call makes of it
-    pub begins-with : (a rest : List ℕ) → xs ≡ a ++ rest
+    begins-with : (a rest : List ℕ) → xs ≡ a ++ rest
         → fed d p m n key iv a .released ≡ take (length a - heldUnder p m n (length a)) (sampleAfter d code box aux keys xs)
     begins-with a rest e =
         let t : take (length a) xs ≡ a = ap (take (length a)) e ∙ take-append-seam a rest in
@@ -135,7 +135,8 @@ module _ (d : Direction) (code box aux keys : List ℕ) (n : ℕ) (hb : (i : ℕ
         (fed-released (encipher (roundKeys key)) (decipher (roundKeys key)) (λ b k. encipher-length _ b)
         (λ b k. decipher-length _ b) d p m iv (begins code box aux keys n accepts hb ha) xs adds-up (length a) u))
 
-    all-of-it : fed d p m n key iv xs .released ≡ sampleAfter d code box aux keys xs
+    -- all of it releases all of that
+    pub all-of-it : fed d p m n key iv xs .released ≡ sampleAfter d code box aux keys xs
     all-of-it =
         rw whole-is
         (rw l at
