@@ -2,14 +2,13 @@
 use mathlib.Core.Bool.{Bool, true, false}
 use mathlib.Core.List.{List, [], _∷_, _++_, append-assoc, append-nil, map, map-append, map-map}
 use mathlib.Core.Path.{_≡_, refl, sym, ap, _∙_}
-use Prim.Native.Nat.{ℕ, _+_, _^_, _≤_, _<_}
+use Prim.Native.Nat.{ℕ, _+_, _^_, _<_}
 use native.Mathlib.Omega.{arith}
 use lib.Dec.{eqb}
 use lib.ListN.{length, take, length-map, List·getD-append}
 use lib.Seq.{take-append-seam}
-use borrow.Author.Tests.{not-false, ltb-false, eqb-true, eqb-false, ne-eqb}
+use borrow.Author.Tests.{eqb-true, eqb-false, ne-eqb}
 use Rattle.octets.specs.Answers.{Row, answer}
-use Rattle.octets.proofs.Answers.{done-head, done-tail}
 use Rattle.octets.proofs.Bytes.{placed-fits}
 use Rattle.volume.specs.Volume.{trailer, trailerBytes, entries, index, adjoining, largestDay, valid, found, none, addRows, added, add, afterAdding}
 use Rattle.volume.specs.Additions.{handedOut, Stored, stored, Addition, answerTo, leaves, volumeAfter, accepted, kept, WrittenOnce}

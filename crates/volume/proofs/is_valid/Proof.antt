@@ -1,5 +1,5 @@
 use mathlib.Core.Bool.{true≢false}
-use mathlib.Core.Path.{sym, ap, _∙_}
+use mathlib.Core.Path.{sym, _∙_}
 use borrow.Author.Tests.{not-true, not-false, eqb-false, le-leb, eq-eqb}
 use Rattle.volume.specs.Volume.{valid}
 use Rattle.volume.proofs.Room.{index-within}
