@@ -28,9 +28,6 @@ module _ (f : ℕ → ℕ → Bool) (a n x m : ℕ) (within : x + m ≤ a + n) w
   abbrev stay : ℕ
   stay = min (a - x) m
 
-  size-all : length (A ++ R) ≡ a + n
-  size-all = simp (length-append, length-replicate, length-range)
-
   size-stay : length (take stay (drop x (A ++ R))) ≡ stay
   size-stay =
       length-take-le stay (drop x (A ++ R)) (simp (length-drop, length-append, length-replicate, length-range) (omega arith))

@@ -6,7 +6,6 @@ use Prim.Native.Nat.{ℕ, _+_, _-_, _%_, _≤_}
 use native.Mathlib.Omega.{arith}
 use lib.Dec.{eqb}
 use lib.ListN.{length, take, drop, replicate, length-append, length-drop}
-use lib.Seq.{length-take-le}
 use borrow.Author.Tests.{eqb-true}
 use Rattle.aes.specs.Block.{roundKeys, encipher, decipher, encipher-length, decipher-length}
 use Rattle.modes.specs.Modes.{Cipher}
@@ -104,9 +103,6 @@ module _ (t : Stream) (ok : sound t ≡ true) (w : Places t) (piece : List ℕ) 
   -- the bytes that are due
   abbrev part : List ℕ
   part = take (due t (length piece)) all
-
-  pub size-part : length part ≡ due t (length piece)
-  size-part = length-take-le (due t (length piece)) all (omega (arith, due-is))
 
   pub size-rest : length (drop (due t (length piece)) all) ≡ keep
   size-rest = length-drop (due t (length piece)) all ∙ omega (arith, due-is, size-all, keep-few)
