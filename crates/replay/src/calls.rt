@@ -30,7 +30,7 @@ enum Kind {
     Malformed,
 }
 
-fn sample_kind(word: &[u8]) -> Kind {
+fn kind_of(word: &[u8]) -> Kind {
     if octets::same(word, b"box") {
         return Kind::Box;
     }
@@ -55,6 +55,7 @@ fn sample_kind(word: &[u8]) -> Kind {
     vault_kind(word)
 }
 
+// Of start vectors and volumes, or malformed.
 fn vault_kind(word: &[u8]) -> Kind {
     if octets::same(word, b"issuer") {
         return Kind::Issuer;
@@ -85,7 +86,7 @@ pub(crate) fn answer(
     out: &mut Buffer,
     at: usize,
 ) -> usize {
-    let kind = sample_kind(words::word(line, 0));
+    let kind = kind_of(words::word(line, 0));
     match kind {
         Kind::Box => boxes::read(line, bytes, out, at),
         Kind::Write => boxes::write(line, lent, out, at),

@@ -23,7 +23,7 @@ returns-3 c =
     sym (not-valid _ (λ h. true≢false (sym (rw (c .before .before .before .before .read .ensures) (h .adjoined)) ∙ sym (c .before .adjoins .ensures) ∙ not-true _ (c .if3 .taken))))
 
 returns-4 : tie.Need-returns-4
-returns-4 c = sym (not-valid _ (λ h. c .if4 .taken (rw (c .before .before .before .before .before .before .read .ensures) (h .last))))
+returns-4 c = sym (not-valid _ (λ h. omega (arith, c .if4 .taken, rw (← (c .before .before .before .before .before .before .read .ensures)) at (h .last))))
 
 largest-day-requires : tie.Need-largest-day-requires
 largest-day-requires c κs = index-within _ _ _ (sym (c .before .before .before .before .before .fills .ensures) ∙ not-false _ (c .before .before .before .before .if2 .left))
@@ -36,7 +36,7 @@ returns-5 c =
       ← (c .before .before .before .before .before .before .before .before .read .ensures),
       sym (c .before .before .before .before .before .before .before .fills .ensures) ∙ not-false _ (c .before .before .before .before .before .before .if2 .left),
       sym (c .before .before .before .before .before .adjoins .ensures) ∙ not-false _ (c .before .before .before .before .if3 .left),
-      eq-eqb _ _ (c .before .before .if4 .left),
+      eq-eqb (c .before .before .before .before .before .before .before .before .read .result .last) 0 (omega (arith, c .before .before .if4 .left)),
       ← (c .before .largest-day .ensures),
     )
 

@@ -21,11 +21,11 @@ returns-2 : tie.Need-returns-2
 returns-2 c =
     let v = c .before .before .before .before .before .before .before .args .volume .now in
     let k = c .before .before .before .before .before .before .before .args .number in
-    let n = record-missing v k (sym (c .before .before .before .before .before .is-valid .ensures) ∙ not-false _ (c .before .before .before .before .if1 .left)) (rw (← (c .before .before .before .read .ensures)) (c .before .if2 .taken)) in
+    let n = record-missing v k (sym (c .before .before .before .before .before .is-valid .ensures) ∙ not-false _ (c .before .before .before .before .if1 .left)) (rw (← (c .before .before .before .read .ensures)) (omega (arith, c .before .if2 .taken))) in
     c .not-found2 .ensures ∙ sym (found-refused v k 51 n (λ e. omega arith))
 
 entry-of-requires : tie.Need-entry-of-requires
-entry-of-requires c κs = (sym (c .before .before .before .before .is-valid .ensures) ∙ not-false _ (c .before .before .before .if1 .left), rw (← (c .before .before .read .ensures)) (c .if2 .left))
+entry-of-requires c κs = (sym (c .before .before .before .before .is-valid .ensures) ∙ not-false _ (c .before .before .before .if1 .left), rw (← (c .before .before .read .ensures)) (omega (arith, c .if2 .left)))
 
 returns-3 : tie.Need-returns-3
 returns-3 c =
