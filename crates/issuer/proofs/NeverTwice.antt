@@ -7,8 +7,8 @@ use lib.ListN.{length, getD, take, replicate, length-append}
 use lib.Seq.{take-at}
 use Rattle.octets.specs.Bytes.{number, digits}
 use Rattle.octets.proofs.Bytes.{length-digits, number-digits, number-after}
-use Rattle.modes.specs.Modes.{counterAt}
-use Rattle.modes.proofs.Counter.{count-at, head-at, distinct}
+use Rattle.modes_spec.specs.Modes.{counterAt}
+use Rattle.modes_spec.proofs.Counter.{count-at, head-at, distinct}
 use Rattle.issuer.specs.declared.IvSize.{IvSize}
 use Rattle.issuer.specs.declared.IvSize.the-variants.{Eight, Sixteen}
 use Rattle.issuer.specs.declared.Issuer.{Issuer}

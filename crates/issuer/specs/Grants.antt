@@ -5,7 +5,7 @@ use mathlib.Core.Path.{_≡_}
 use Prim.Native.Nat.{ℕ, zero, suc, _+_, _<_}
 use lib.Dec.{eqb}
 use lib.ListN.{getD}
-use Rattle.modes.specs.Modes.{counterAt}
+use Rattle.modes_spec.specs.Modes.{counterAt}
 use Rattle.issuer.specs.declared.Issuer.{Issuer}
 use Rattle.issuer.specs.declared.Granted.{Granted}
 use Rattle.issuer.specs.Issuer.{exhausted, start, advance, grant}

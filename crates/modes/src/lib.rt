@@ -1,17 +1,12 @@
 // The counter mode and cipher block chaining over a part of a byte string in place (SP 800-38A, 6.5 and 6.2).
 ghost use mathlib.Core.Path.{_≡_};
-ghost use Prim.Native.Nat.{_+_, _/_, _≤_, min};
+ghost use Prim.Native.Nat.{_+_, _/_, _≤_};
 ghost use lib.ListN.{length, drop};
 ghost use Rattle.aes.specs.Block as block;
-ghost use Rattle.modes.specs.Modes as spec;
+ghost use Rattle.modes_spec.specs.Modes as spec;
 use aes::Block;
 use aes::RoundKeys;
-
-// Plain text to cipher text, or back.
-pub enum Direction {
-    Lock,
-    Open,
-}
+pub use modes_spec::Direction;
 
 // The counter block n steps on: bytes 8 to 15 are a number that wraps to zero, and bytes 0 to 7 stay.
 fn counter_after(b: [u8; 16], n: u64) -> [u8; 16]
@@ -50,12 +45,6 @@ fn xor_part(pad: [u8; 16], used: usize, part: &mut [u8])
     }
 }
 
-fn least(a: usize, b: usize) -> usize
-    ensures { λ r. ⌜ r ≡ min a b ⌝ }
-{
-    if a < b { a } else { b }
-}
-
 // The counter mode over a part that begins `used` bytes into the key stream; answers the counter block that follows it.
 pub fn ctr(keys: RoundKeys, counter: [u8; 16], used: usize, part: &mut [u8]) -> [u8; 16]
     ensures { λ r. ⌜ (now (part .exit) ≡ spec.ctr (block.encipher keys) counter used (now (part .entry)))
@@ -66,7 +55,7 @@ pub fn ctr(keys: RoundKeys, counter: [u8; 16], used: usize, part: &mut [u8]) -> 
     let mut at = 0;
     while at < part.len() {
         let skip = (from + at) % 16;
-        let end = at + least(16 - skip, part.len() - at);
+        let end = at + octets::least(16 - skip, part.len() - at);
         let pad = Block::new(b).encipher(keys).bytes();
         xor_part(pad, skip, &mut part[at..end]);
         at = end;

@@ -5,7 +5,7 @@ use Prim.Native.Nat.{ℕ}
 use lib.Dec.{eqb, ltb}
 use lib.ListN.{length, drop}
 use Rattle.octets.specs.Answers.{answer}
-use Rattle.modes.specs.declared.Direction.the-variants.{Open}
+use Rattle.modes_spec.specs.declared.Direction.the-variants.{Open}
 use Rattle.sample.specs.Sample.{sampleRows, sampleAfter}
 
 module _ (code box aux keys xs out : List ℕ) where

@@ -12,9 +12,9 @@ use Rattle.octets.specs.Answers.{answer}
 use Rattle.octets.specs.Bytes.{Bytes, filled}
 use Rattle.octets.proofs.Answers.{done-head, done-tail}
 use Rattle.aes.specs.Block.{roundKeys, encipher, decipher, encipher-length, decipher-length}
-use Rattle.modes.specs.declared.Direction.{Direction}
-use Rattle.modes.specs.Modes.{Cipher}
-use Rattle.modes.proofs.Undone.{bytes-take, bytes-drop, bytes-append}
+use Rattle.modes_spec.specs.declared.Direction.{Direction}
+use Rattle.modes_spec.specs.Modes.{Cipher}
+use Rattle.modes_spec.proofs.Undone.{bytes-take, bytes-drop, bytes-append}
 use Rattle.track.specs.declared.Parameters.{Parameters}
 use Rattle.track.specs.Track.{zeros, hasConstant, fields}
 use Rattle.track.proofs.RoundTrip.{Accepted, accepted}

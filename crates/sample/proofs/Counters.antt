@@ -7,7 +7,7 @@ use native.Mathlib.Omega.{arith}
 use lib.ListN.{length, getD, drop, take}
 use Rattle.octets.specs.Answers.{answer}
 use Rattle.octets.specs.Bytes.{filled}
-use Rattle.modes.specs.Modes.{counterAt}
+use Rattle.modes_spec.specs.Modes.{counterAt}
 use Rattle.track.specs.declared.Parameters.{Parameters}
 use Rattle.track.specs.Track.{zeros, hasConstant, fields}
 use Rattle.subsample.specs.Auxiliary.{mapRead, ivRead}

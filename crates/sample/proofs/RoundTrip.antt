@@ -8,9 +8,9 @@ use lib.ListN.{length, getD, drop}
 use borrow.Author.Tests.{eqb-true, eqb-false, ne-eqb}
 use Rattle.octets.specs.Answers.{answer}
 use Rattle.octets.specs.Bytes.{Bytes, filled}
-use Rattle.modes.specs.declared.Direction.{Direction}
-use Rattle.modes.specs.Modes.{Cipher}
-use Rattle.modes.proofs.Undone.{back, Inverse, aes-inverse, bytes-drop}
+use Rattle.modes_spec.specs.declared.Direction.{Direction}
+use Rattle.modes_spec.specs.Modes.{Cipher}
+use Rattle.modes_spec.proofs.Undone.{back, Inverse, aes-inverse, bytes-drop}
 use Rattle.track.specs.declared.Parameters.{Parameters}
 use Rattle.track.specs.Track.{zeros, fields}
 use Rattle.subsample.specs.declared.SubsampleMap.{SubsampleMap}

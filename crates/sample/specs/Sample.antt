@@ -7,7 +7,7 @@ use lib.ListN.{length, take, drop}
 use Rattle.octets.specs.Answers.{Row, row, answer}
 use Rattle.octets.specs.Bytes.{same, filled}
 use Rattle.aes.specs.Block.{roundKeys, encipher, decipher}
-use Rattle.modes.specs.declared.Direction.{Direction}
+use Rattle.modes_spec.specs.declared.Direction.{Direction}
 use Rattle.track.specs.declared.Parameters.{Parameters}
 use Rattle.track.specs.Track.{zeros, fields, readRows, unprotected}
 use Rattle.subsample.specs.Auxiliary.{emptyMap, mapRead, ivRead, auxiliaryRows}

@@ -14,11 +14,11 @@ use borrow.Author.Tests.{eqb-true, eqb-false, eq-eqb, ne-eqb, lt-ltb, le-ltb}
 use Rattle.scheme.specs.declared.Scheme.{Scheme}
 use Rattle.scheme.specs.declared.Scheme.the-variants.{Cenc, Cbc1, Cens, Cbcs}
 use Rattle.scheme.specs.Layout.{Entry, total, inWholeBlock, inCryptRun, tabulate, isCiphered, rangeMarks, marks, mask, restarts, restartMask, chosen, replaced}
-use Rattle.modes.specs.declared.Direction.{Direction}
-use Rattle.modes.specs.Modes.{Cipher, counterAt, streamByte, ctr, blockOut, blockChain, cbcBlocks, cbc}
+use Rattle.modes_spec.specs.declared.Direction.{Direction}
+use Rattle.modes_spec.specs.Modes.{Cipher, counterAt, streamByte, ctr, blockOut, blockChain, cbcBlocks, cbc}
 use Rattle.scheme.specs.WholeSample.{over, overEach, whole}
 use Rattle.octets.specs.Bytes.{Bytes}
-use Rattle.modes.proofs.Counter.{steps, no-step}
+use Rattle.modes_spec.proofs.Counter.{steps, no-step}
 use Rattle.scheme.proofs.Pieces.{cond-law, count-marked, count-unmarked, Sized, length-blockOut, feed-append, feed-position, heldAfter, Added, feed-adds}
 use Rattle.scheme.specs.Layout.{count}
 use Rattle.scheme.specs.Machine.{free, State, Stepped, Mode, Counter, Chain, modeOf, chainAt, plain, counted, chained, ciphered, step, feed, feedSample}

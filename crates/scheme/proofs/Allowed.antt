@@ -12,7 +12,7 @@ use borrow.Author.Tests.{eqb-true, eqb-false, leb-true, ltb-false, lt-ltb, not-f
 use Rattle.octets.specs.Answers.{answer}
 use Rattle.octets.specs.Bytes.{same}
 use Rattle.octets.proofs.Answers.{done-head, done-tail}
-use Rattle.octets.proofs.Bytes.{&&-left, &&-right}
+use Rattle.octets.proofs.Tests.{&&-left, &&-right}
 use Rattle.track.specs.declared.Parameters.{Parameters}
 use Rattle.track.specs.Track.{zeros, known, hasConstant, aPattern, eightOrSixteen, allowedProtected, allowedFields, allowed}
 use Rattle.track.proofs.Codes.{known-cases, allowed-small}

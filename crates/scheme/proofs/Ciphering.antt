@@ -5,10 +5,10 @@ use mathlib.Core.List.{List, _++_}
 use Prim.Native.Nat.{ℕ, _+_, _-_, _*_, _/_, _%_, _<_}
 use native.Mathlib.Omega.{arith}
 use lib.ListN.{length, replicate}
-use Rattle.modes.specs.declared.Direction.{Direction}
+use Rattle.modes_spec.specs.declared.Direction.{Direction}
 use Rattle.scheme.specs.declared.Scheme.{Scheme}
 use Rattle.scheme.specs.declared.Scheme.the-variants.{Cenc, Cbc1, Cens, Cbcs}
-use Rattle.modes.specs.Modes.{Cipher, counterAt, ctr, cbc, chainEnd}
+use Rattle.modes_spec.specs.Modes.{Cipher, counterAt, ctr, cbc, chainEnd}
 use Rattle.octets.specs.Bytes.{Bytes}
 use Rattle.scheme.proofs.Pieces.{Sized}
 use Rattle.scheme.specs.Machine.{Mode, Counter, Chain, modeOf}

@@ -6,8 +6,8 @@ use Prim.Native.Nat.{ℕ, _*_, _/_, _%_, _≤_, _<_}
 use native.Mathlib.Omega.{arith}
 use lib.ListN.{length, getD}
 use Rattle.octets.proofs.Bytes.{getD-listOf}
-use Rattle.modes.specs.Modes.{Cipher, counterAt, streamByte}
-use Rattle.modes.proofs.Counter.{distinct}
+use Rattle.modes_spec.specs.Modes.{Cipher, counterAt, streamByte}
+use Rattle.modes_spec.proofs.Counter.{distinct}
 use Rattle.scheme.specs.declared.Scheme.{Scheme}
 use Rattle.scheme.specs.Layout.{Entry, isCiphered, total, mask, count}
 use Rattle.scheme.specs.Counters.{blocksNeeded, counterBlocks}

@@ -9,8 +9,8 @@ use lib.Seq.{take-append-seam}
 use Rattle.scheme.specs.declared.Scheme.{Scheme}
 use Rattle.scheme.specs.declared.Scheme.the-variants.{Cenc, Cbc1, Cens, Cbcs}
 use Rattle.scheme.specs.Layout.{Entry, total, mask, restartMask, isCiphered}
-use Rattle.modes.specs.declared.Direction.{Direction}
-use Rattle.modes.specs.Modes.{Cipher}
+use Rattle.modes_spec.specs.declared.Direction.{Direction}
+use Rattle.modes_spec.specs.Modes.{Cipher}
 use Rattle.scheme.specs.WholeSample.{whole}
 use Rattle.scheme.specs.Layout.{count}
 use Rattle.scheme.specs.Machine.{modeOf, feedSample}

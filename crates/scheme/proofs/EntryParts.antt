@@ -9,10 +9,10 @@ use lib.ListN.{length, take, drop, replicate, length-append, length-drop, length
 use lib.Seq.{ext-getD, getD-take, getD-drop, drop-drop, take-add, length-take-le, drop-append-add, take-all}
 use borrow.Author.Tests.{ltb-true, ltb-false}
 use borrow.Rule.Slice.PartMut.{putMid}
-use Rattle.modes.specs.declared.Direction.{Direction}
+use Rattle.modes_spec.specs.declared.Direction.{Direction}
 use Rattle.scheme.specs.declared.Scheme.{Scheme}
 use Rattle.scheme.specs.Layout.{isCiphered, restarts, rangeMarks}
-use Rattle.modes.specs.Modes.{Cipher}
+use Rattle.modes_spec.specs.Modes.{Cipher}
 use Rattle.scheme.proofs.Agreement.{length-range}
 use Rattle.scheme.specs.Machine.{modeOf}
 use Rattle.scheme.proofs.Passes.{Passes, passes-join, passes-clear}

@@ -7,9 +7,9 @@ use native.Mathlib.Omega.{arith}
 use lib.Dec.{eqb, leb}
 use lib.ListN.{length, take}
 use borrow.Author.Tests.{eqb-true, eq-eqb, leb-true, leb-false, le-leb, lt-leb}
-use Rattle.octets.proofs.Bytes.{&&-left, &&-right}
-use Rattle.modes.specs.declared.Direction.{Direction}
-use Rattle.modes.specs.Modes.{Cipher}
+use Rattle.octets.proofs.Tests.{&&-left, &&-right}
+use Rattle.modes_spec.specs.declared.Direction.{Direction}
+use Rattle.modes_spec.specs.Modes.{Cipher}
 use Rattle.track.specs.declared.Parameters.{Parameters}
 use Rattle.subsample.specs.declared.SubsampleMap.{SubsampleMap}
 use Rattle.subsample.specs.Auxiliary.{longest}

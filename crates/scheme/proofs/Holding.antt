@@ -9,11 +9,11 @@ use lib.Dec.{ltb}
 use lib.ListN.{length, getD, take, drop, replicate, length-append, take-append-drop, length-drop, List·getD-eq-default, drop-of-length-le}
 use lib.Seq.{length-take-le, drop-cons, take-all}
 use borrow.Author.Tests.{ne-eqb, lt-ltb, le-ltb, ltb-true, ltb-false}
-use Rattle.modes.specs.declared.Direction.{Direction}
+use Rattle.modes_spec.specs.declared.Direction.{Direction}
 use Rattle.scheme.specs.declared.Scheme.{Scheme}
 use Rattle.scheme.specs.declared.Scheme.the-variants.{Cenc, Cbc1, Cens, Cbcs}
 use Rattle.scheme.specs.Layout.{Entry, total, inWholeBlock, inCryptRun, isCiphered, marks, mask, restartMask}
-use Rattle.modes.specs.Modes.{Cipher}
+use Rattle.modes_spec.specs.Modes.{Cipher}
 use Rattle.scheme.proofs.Pieces.{cond-law, Sized, heldAfter, Added, feed-adds, feed-position}
 use Rattle.scheme.proofs.Agreement.{drop-head, drop-tail}
 use Rattle.scheme.specs.Machine.{free}

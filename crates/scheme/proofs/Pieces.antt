@@ -8,9 +8,9 @@ use native.Mathlib.Omega.{arith}
 use lib.Dec.{eqb}
 use lib.ListN.{length, getD, take, length-append}
 use borrow.Author.Tests.{eqb-true, eqb-false}
-use Rattle.modes.specs.declared.Direction.{Direction}
-use Rattle.modes.specs.declared.Direction.the-variants.{Lock, Open}
-use Rattle.modes.specs.Modes.{Cipher, xors, blockOut}
+use Rattle.modes_spec.specs.declared.Direction.{Direction}
+use Rattle.modes_spec.specs.declared.Direction.the-variants.{Lock, Open}
+use Rattle.modes_spec.specs.Modes.{Cipher, xors, blockOut}
 use Rattle.scheme.specs.Layout.{count}
 use Rattle.scheme.specs.Machine.{State, Stepped, Mode, Counter, Chain, chainAt, plain, counted, chained, ciphered, step, feed}
 

@@ -10,11 +10,11 @@ use lib.ListN.{length, take, drop, replicate, length-drop, length-replicate, get
 use lib.Seq.{take-length, ext-getD, getD-take, getD-drop, drop-drop, take-add, length-take-le}
 use borrow.Author.Tests.{ne-eqb, ltb-true, ltb-false}
 use borrow.Rule.Slice.PartMut.{putMid}
-use Rattle.modes.specs.declared.Direction.{Direction}
+use Rattle.modes_spec.specs.declared.Direction.{Direction}
 use Rattle.scheme.specs.declared.Scheme.{Scheme}
 use Rattle.scheme.specs.declared.Scheme.the-variants.{Cenc, Cbc1, Cens, Cbcs}
 use Rattle.scheme.specs.Layout.{isCiphered, restarts, rangeMarks}
-use Rattle.modes.specs.Modes.{Cipher}
+use Rattle.modes_spec.specs.Modes.{Cipher}
 use Rattle.scheme.proofs.Agreement.{length-range}
 use Rattle.scheme.proofs.Positions.{getD-range}
 use Rattle.scheme.specs.Machine.{Mode, Counter, Chain, modeOf}

@@ -11,11 +11,11 @@ use lib.ListN.{length, getD, take, drop, replicate, length-append, length-drop, 
 use lib.Seq.{drop-drop, take-add, length-take-le, drop-append-le, take-append-le, drop-append-add, take-length, drop-at, drop-nil}
 use borrow.Author.Tests.{ltb-true, ltb-false, le-ltb}
 use borrow.Rule.Slice.PartMut.{putMid}
-use Rattle.modes.specs.declared.Direction.{Direction}
+use Rattle.modes_spec.specs.declared.Direction.{Direction}
 use Rattle.scheme.specs.declared.Scheme.{Scheme}
 use Rattle.scheme.specs.declared.Scheme.the-variants.{Cenc, Cbc1, Cens, Cbcs}
 use Rattle.scheme.specs.Layout.{Entry, entry, entries, total, inWholeBlock, isCiphered, restarts, rangeMarks, marks, mask, restartMask}
-use Rattle.modes.specs.Modes.{Cipher}
+use Rattle.modes_spec.specs.Modes.{Cipher}
 use Rattle.scheme.proofs.Agreement.{length-range}
 use Rattle.scheme.proofs.Pieces.{cond-law, heldAfter}
 use Rattle.scheme.specs.Held.{Place, place, inPlace, inBlock}

@@ -10,10 +10,10 @@ use lib.ListN.{length, getD, take, drop, replicate, length-append, length-replic
 use lib.Seq.{drop-drop, take-all, take-at, drop-at, length-take-le, getD-take, getD-drop, getD-append-add}
 use borrow.Author.Tests.{ltb-true, ltb-false}
 use Rattle.octets.specs.Bytes.{Bytes}
-use Rattle.modes.specs.declared.Direction.{Direction}
-use Rattle.modes.specs.Modes.{Cipher, ctr, cbc}
-use Rattle.modes.proofs.Streamed.{shorter}
-use Rattle.modes.proofs.Undone.{back, Inverse, Undoes, same-undone, bytes-take, bytes-drop, bytes-append, ctr-undone, cbc-undone}
+use Rattle.modes_spec.specs.declared.Direction.{Direction}
+use Rattle.modes_spec.specs.Modes.{Cipher, ctr, cbc}
+use Rattle.modes_spec.proofs.Streamed.{shorter}
+use Rattle.modes_spec.proofs.Undone.{back, Inverse, Undoes, same-undone, bytes-take, bytes-drop, bytes-append, ctr-undone, cbc-undone}
 use Rattle.scheme.specs.declared.Scheme.{Scheme}
 use Rattle.scheme.specs.declared.Scheme.the-variants.{Cenc, Cbc1, Cens, Cbcs}
 use Rattle.scheme.specs.Layout.{Entry, isCiphered, rangeMarks, marks, mask, chosen, replaced}

@@ -7,8 +7,8 @@ use native.Mathlib.Nat.{add-zero}
 use native.Mathlib.Omega.{arith}
 use lib.ListN.{length, getD}
 use lib.Seq.{ext-getD}
-use Rattle.modes.specs.declared.Direction.{Direction}
-use Rattle.modes.specs.Modes.{Cipher}
+use Rattle.modes_spec.specs.declared.Direction.{Direction}
+use Rattle.modes_spec.specs.Modes.{Cipher}
 use Rattle.scheme.specs.declared.Scheme.{Scheme}
 use Rattle.scheme.specs.declared.Scheme.the-variants.{Cenc, Cbc1, Cens, Cbcs}
 use Rattle.scheme.specs.Layout.{entry, isCiphered, marks, mask}

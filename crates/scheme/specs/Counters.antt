@@ -2,7 +2,7 @@
 use mathlib.Core.List.{List}
 use Prim.Native.Nat.{ℕ, _+_, _/_}
 use Rattle.octets.specs.Bytes.{listOf}
-use Rattle.modes.specs.Modes.{counterAt}
+use Rattle.modes_spec.specs.Modes.{counterAt}
 use Rattle.scheme.specs.declared.Scheme.{Scheme}
 use Rattle.scheme.specs.Layout.{Entry, mask, count}
 

@@ -3,8 +3,8 @@ use mathlib.Core.Bool.{Bool}
 use mathlib.Core.List.{List, [], _∷_, _++_}
 use Prim.Native.Nat.{ℕ, _+_}
 use lib.ListN.{take, drop}
-use Rattle.modes.specs.declared.Direction.{Direction}
-use Rattle.modes.specs.Modes.{Cipher, ctr, cbc}
+use Rattle.modes_spec.specs.declared.Direction.{Direction}
+use Rattle.modes_spec.specs.Modes.{Cipher, ctr, cbc}
 use Rattle.scheme.specs.declared.Scheme.{Scheme}
 use Rattle.scheme.specs.declared.Scheme.the-variants.{Cenc, Cbc1, Cens, Cbcs}
 use Rattle.scheme.specs.Layout.{Entry, isCiphered, mask, rangeMarks, chosen, replaced}

@@ -10,7 +10,7 @@ use lib.Seq.{take-append-seam}
 use borrow.Author.Tests.{eq-eqb, ne-eqb, eqb-true}
 use Rattle.octets.specs.Answers.{answer}
 use Rattle.aes.specs.Block.{roundKeys, encipher, decipher, encipher-length, decipher-length}
-use Rattle.modes.specs.declared.Direction.{Direction}
+use Rattle.modes_spec.specs.declared.Direction.{Direction}
 use Rattle.track.specs.declared.Parameters.{Parameters}
 use Rattle.track.specs.Track.{fields}
 use Rattle.subsample.specs.declared.SubsampleMap.{SubsampleMap}

@@ -8,7 +8,7 @@ use lib.Dec.{eqb}
 use lib.ListN.{length}
 use borrow.Author.Tests.{eqb-true, eqb-false, eq-eqb, ne-eqb}
 use Rattle.octets.specs.Answers.{answer}
-use Rattle.modes.specs.declared.Direction.{Direction}
+use Rattle.modes_spec.specs.declared.Direction.{Direction}
 use Rattle.track.specs.declared.Parameters.{Parameters}
 use Rattle.track.specs.Track.{hasConstant, parameterRows, writeRows}
 use Rattle.track.proofs.Checking.{write-refused, write-done}

@@ -8,7 +8,7 @@ use lib.Dec.{eqb}
 use lib.ListN.{length, take, drop, replicate, length-append, length-drop}
 use borrow.Author.Tests.{eqb-true}
 use Rattle.aes.specs.Block.{roundKeys, encipher, decipher, encipher-length, decipher-length}
-use Rattle.modes.specs.Modes.{Cipher}
+use Rattle.modes_spec.specs.Modes.{Cipher}
 use Rattle.track.specs.declared.Parameters.{Parameters}
 use Rattle.track.proofs.Checking.{check-known, check-allowed}
 use Rattle.subsample.specs.declared.SubsampleMap.{SubsampleMap}

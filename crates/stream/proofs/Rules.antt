@@ -12,8 +12,8 @@ use borrow.Author.Tests.{eqb-true, eq-eqb, leb-true, le-leb, le-ltb, ltb-false, 
 use Rattle.octets.specs.Answers.{answer}
 use Rattle.octets.specs.Bytes.{same}
 use Rattle.octets.proofs.Answers.{done-head, done-tail}
-use Rattle.octets.proofs.Bytes.{&&-left, &&-right}
-use Rattle.modes.specs.declared.Direction.{Direction}
+use Rattle.octets.proofs.Tests.{&&-left, &&-right}
+use Rattle.modes_spec.specs.declared.Direction.{Direction}
 use Rattle.track.specs.declared.Parameters.{Parameters}
 use Rattle.track.specs.Track.{known, allowedFields, allowed, fields, parameterRows}
 use Rattle.subsample.specs.Auxiliary.{longest, some, sum, mapRows, mapRead}

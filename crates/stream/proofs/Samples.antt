@@ -7,8 +7,8 @@ use lib.ListN.{length, getD, replicate}
 use Rattle.octets.specs.Answers.{answer}
 use Rattle.octets.specs.Bytes.{listOf, same, number, digits, filled}
 use Rattle.octets.specs.Xor.{_⊕_}
-use Rattle.modes.specs.declared.Direction.the-variants.{Lock}
-use Rattle.modes.specs.Modes.{counterAt, streamByte, ctr}
+use Rattle.modes_spec.specs.declared.Direction.the-variants.{Lock}
+use Rattle.modes_spec.specs.Modes.{counterAt, streamByte, ctr}
 use Rattle.track.specs.Track.{cenc, cbc1, tenc, known, allowedProtected, allowedFields, allowed, fields, badFrame, badHead, badFields, readRows}
 use Rattle.subsample.specs.Auxiliary.{emptyMap, some, sum, mapRows, badSize, entryCount, mapRead, auxiliaryRows}
 use Rattle.scheme.specs.declared.Scheme.the-variants.{Cenc, Cbc1, Cens, Cbcs}

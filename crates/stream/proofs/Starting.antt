@@ -4,7 +4,7 @@ use mathlib.Core.Path.{_≡_, sym, ap, _∙_}
 use Prim.Native.Nat.{ℕ}
 use borrow.Author.Tests.{ne-eqb}
 use Rattle.octets.specs.Answers.{answer}
-use Rattle.modes.specs.declared.Direction.{Direction}
+use Rattle.modes_spec.specs.declared.Direction.{Direction}
 use Rattle.track.specs.Track.{zeros}
 use Rattle.sample.specs.declared.Inputs.{Inputs}
 use Rattle.sample.specs.Sample.{sampleRows, handedOut, readInputs}

@@ -5,7 +5,7 @@ use mathlib.Core.Path.{_≡_}
 use Prim.Native.Nat.{ℕ, _+_, _-_, _≤_}
 use lib.Dec.{eqb, ltb}
 use lib.ListN.{length, take}
-use Rattle.modes.specs.declared.Direction.{Direction}
+use Rattle.modes_spec.specs.declared.Direction.{Direction}
 use Rattle.track.specs.Track.{fields}
 use Rattle.subsample.specs.Auxiliary.{mapRead}
 use Rattle.scheme.specs.Part.{heldUnder}

@@ -6,8 +6,8 @@ use lib.Dec.{eqb, leb, ltb}
 use lib.ListN.{length, take, drop, replicate}
 use Rattle.octets.specs.Answers.{Row, row, answer}
 use Rattle.aes.specs.Block.{roundKeys, encipher, decipher}
-use Rattle.modes.specs.declared.Direction.{Direction}
-use Rattle.modes.specs.declared.Direction.the-variants.{Open}
+use Rattle.modes_spec.specs.declared.Direction.{Direction}
+use Rattle.modes_spec.specs.declared.Direction.the-variants.{Open}
 use Rattle.track.specs.Track.{zeros, fields, unprotected, parameterRows}
 use Rattle.subsample.specs.Auxiliary.{longest, emptyMap, mapRows, mapRead, ivRead}
 use Rattle.scheme.specs.Machine.{State, Stepped}

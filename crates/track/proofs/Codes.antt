@@ -9,7 +9,8 @@ use lib.Dec.{eqb, leb, ltb}
 use lib.ListN.{length, take, drop}
 use borrow.Author.Tests.{ltb-false, eqb-true, leb-true}
 use Rattle.octets.specs.Bytes.{same, number}
-use Rattle.octets.proofs.Bytes.{same-equal, &&-left, &&-right}
+use Rattle.octets.proofs.Bytes.{same-equal}
+use Rattle.octets.proofs.Tests.{&&-left, &&-right}
 use Rattle.track.specs.declared.Parameters.{Parameters}
 use Rattle.track.specs.Track.{cenc, cbc1, cens, cbcs, tenc, zeros, known, hasConstant, noPattern, aPattern, eightOrSixteen, allowedProtected, allowedFields, allowed, badFrame}
 

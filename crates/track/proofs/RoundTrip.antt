@@ -12,7 +12,8 @@ use borrow.Author.Tests.{eqb-true, not-false, ltb-false, le-ltb, eq-eqb}
 use Rattle.octets.specs.Answers.{row, answer}
 use Rattle.octets.specs.Bytes.{same, number, digits, filled}
 use Rattle.octets.proofs.Answers.{done-head, done-tail}
-use Rattle.octets.proofs.Bytes.{&&-left, same-equal, same-true, digits-number, part-listOf, filled-long, filled-all}
+use Rattle.octets.proofs.Bytes.{same-equal, same-true, digits-number, part-listOf, filled-long, filled-all}
+use Rattle.octets.proofs.Tests.{&&-left}
 use Rattle.track.specs.declared.Parameters.{Parameters}
 use Rattle.track.specs.Track.{tenc, zeros, known, hasConstant, allowed, badVersion, boxLength, fields, badFrame, badHead, badFields, readRows, readBox, head, boxBytes, writeRows}
 use Rattle.track.proofs.Codes.{or-false-left, or-false-right, allowed-small}

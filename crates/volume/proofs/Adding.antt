@@ -11,7 +11,7 @@ use lib.Seq.{length-take-le, take-append-le, drop-append-le, take-at, drop-at}
 use borrow.Author.Tests.{not-false, ltb-false, eqb-true}
 use Rattle.octets.specs.Answers.{Row, row, answer}
 use Rattle.octets.proofs.Answers.{done-head, done-tail}
-use Rattle.octets.proofs.Bytes.{&&-right}
+use Rattle.octets.proofs.Tests.{&&-right}
 use Rattle.volume.specs.declared.Entry.{Entry}
 use Rattle.volume.specs.declared.Trailer.{Trailer}
 use Rattle.volume.specs.Volume.{entryAt, entryBytes, trailer, trailerBytes, entries, index, adjoining, valid, written, none, emptyRows, setBack, newEntry, newTrailer, addRows, added, add}

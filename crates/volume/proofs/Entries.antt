@@ -7,7 +7,7 @@ use native.Mathlib.Omega.{arith}
 use lib.Dec.{eqb}
 use lib.ListN.{length, getD}
 use borrow.Author.Tests.{eqb-true, eq-eqb}
-use Rattle.octets.proofs.Bytes.{&&-left, &&-right}
+use Rattle.octets.proofs.Tests.{&&-left, &&-right}
 use Rattle.volume.specs.declared.Entry.{Entry}
 use Rattle.volume.specs.Volume.{entryAt, entries, adjoining, largestDay}
 use Rattle.volume.proofs.Fields.{entry-before, entry-behind}

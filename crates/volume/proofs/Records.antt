@@ -9,7 +9,7 @@ use lib.ListN.{length, getD, length-map, List·getD-eq-default}
 use borrow.Author.Tests.{not-false, leb-false, leb-true, le-leb, lt-leb, eqb-true, eqb-false, ne-eqb}
 use Rattle.octets.specs.Answers.{answer}
 use Rattle.octets.proofs.Answers.{done-head, done-tail}
-use Rattle.octets.proofs.Bytes.{&&-right}
+use Rattle.octets.proofs.Tests.{&&-right}
 use Rattle.volume.specs.declared.Entry.{Entry}
 use Rattle.volume.specs.Volume.{trailer, index, adjoining, valid, check, entryOf, recordRows, found}
 use Rattle.volume.specs.Additions.{handedOut, Stored, storedBy, stored}

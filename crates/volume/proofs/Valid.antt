@@ -6,7 +6,7 @@ use Prim.Native.Nat.{ℕ, _+_, _*_, _≤_}
 use lib.Dec.{eqb, leb}
 use lib.ListN.{length}
 use borrow.Author.Tests.{leb-true, le-leb, eqb-true, eq-eqb}
-use Rattle.octets.proofs.Bytes.{&&-left, &&-right}
+use Rattle.octets.proofs.Tests.{&&-left, &&-right}
 use Rattle.volume.specs.declared.Trailer.{Trailer}
 use Rattle.volume.specs.Volume.{trailer, index, adjoining, largestDay, valid}
 

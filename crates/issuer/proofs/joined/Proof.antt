@@ -3,7 +3,7 @@ use mathlib.Core.Path.{_≡_, ap, _∙_}
 use Prim.Native.Nat.{ℕ}
 use lib.ListN.{length}
 use lib.Seq.{take-all}
-use Rattle.modes.proofs.Counter.{assembled}
+use Rattle.modes_spec.proofs.Counter.{assembled}
 use borrow.Author.Needs.{needs}
 use native.Mathlib.Omega.{arith}
 use Rattle.issuer.proofs.joined.Statement.{statement}

@@ -4,7 +4,7 @@ use lib.ListN.{length, take, drop, length-drop}
 use lib.Seq.{length-take-le}
 use Rattle.aes.specs.Block.{encipher, decipher}
 use Rattle.octets.proofs.Fill.{fill-length}
-use Rattle.modes.proofs.Chained.{Chained, chain-start, chain-next, chain-done, chain-last}
+use Rattle.modes_spec.proofs.Chained.{Chained, chain-start, chain-next, chain-done, chain-last}
 use borrow.Author.Needs.{needs}
 use native.Mathlib.Omega.{arith}
 use Rattle.modes.proofs.cbc.Statement.{statement}

@@ -1,4 +1,4 @@
-use Rattle.modes.specs.Modes.{blockOut, blockChain}
+use Rattle.modes_spec.specs.Modes.{blockOut, blockChain}
 use borrow.Author.Needs.{needs}
 use Rattle.modes.proofs.chain_block.Statement.{statement}
 use Rattle.modes.proofs.chain_block.Tie as tie

@@ -3,8 +3,8 @@ use mathlib.Core.Path.{_≡_, ap, _∙_}
 use Prim.Native.Nat.{ℕ, _+_, _%_, _^_}
 use lib.ListN.{length, take}
 use Rattle.octets.specs.Bytes.{number, digits}
-use Rattle.modes.specs.Modes.{counterAt}
-use Rattle.modes.proofs.Counter.{assembled}
+use Rattle.modes_spec.specs.Modes.{counterAt}
+use Rattle.modes_spec.proofs.Counter.{assembled}
 use borrow.Author.Needs.{needs}
 use native.Mathlib.Omega.{arith}
 use Rattle.modes.proofs.counter_after.Statement.{statement}

@@ -8,9 +8,9 @@ use mir.Syntax.{w8}
 use mir.Val.{Fits}
 use Rattle.aes.specs.Block.{encipher}
 use Rattle.octets.proofs.Fill.{Filled, fill-length, fill-all}
-use Rattle.modes.specs.Modes.{ctr}
-use Rattle.modes.proofs.Counter.{steps, no-step}
-use Rattle.modes.proofs.Streamed.{Streamed, shorter, stream-start, stream-part, stream-next, stream-same, ctr-from}
+use Rattle.modes_spec.specs.Modes.{ctr}
+use Rattle.modes_spec.proofs.Counter.{steps, no-step}
+use Rattle.modes_spec.proofs.Streamed.{Streamed, shorter, stream-start, stream-part, stream-next, stream-same, ctr-from}
 use borrow.Author.Needs.{needs}
 use native.Mathlib.Omega.{arith}
 use Rattle.modes.proofs.ctr.Statement.{statement}

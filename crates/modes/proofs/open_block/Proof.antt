@@ -2,7 +2,7 @@ use mathlib.Core.Path.{_≡_, sym, _∙_}
 use lib.ListN.{length}
 use Rattle.octets.proofs.Bytes.{filled-all, placed-whole}
 use Rattle.aes.specs.Block.{decipher}
-use Rattle.modes.specs.Modes.{xors}
+use Rattle.modes_spec.specs.Modes.{xors}
 use borrow.Author.Needs.{needs}
 use Rattle.modes.proofs.open_block.Statement.{statement}
 use Rattle.modes.proofs.open_block.Tie as tie

@@ -5,8 +5,8 @@ use lib.ListN.{length, getD, take, drop, length-drop}
 use lib.Seq.{getD-drop, take-all}
 use Rattle.octets.specs.Xor.{_⊕_}
 use Rattle.octets.proofs.Fill.{Filled, fill-none, fill-length, fill-all, fill-at, fill-next}
-use Rattle.modes.specs.Modes.{xors}
-use Rattle.modes.proofs.Strings.{xors-none, xors-next}
+use Rattle.modes_spec.specs.Modes.{xors}
+use Rattle.modes_spec.proofs.Strings.{xors-none, xors-next}
 use borrow.Author.Needs.{needs}
 use native.Mathlib.Omega.{arith}
 use Rattle.modes.proofs.xor_part.Statement.{statement}

@@ -9,9 +9,9 @@ use lib.Seq.{drop-cons, take-add, length-take-le}
 use borrow.Rule.Slice.PartMut.{putMid}
 use Rattle.octets.specs.Xor.{_⊕_}
 use Rattle.octets.proofs.Fill.{Filled, fill-none, fill-drop, fill-part}
-use Rattle.modes.specs.Modes.{Cipher, xors, counterAt, streamByte, ctr}
-use Rattle.modes.proofs.Counter.{steps}
-use Rattle.modes.proofs.Strings.{length-xors}
+use Rattle.modes_spec.specs.Modes.{Cipher, xors, counterAt, streamByte, ctr}
+use Rattle.modes_spec.proofs.Counter.{steps}
+use Rattle.modes_spec.proofs.Strings.{length-xors}
 
 -- a part is no longer than it is asked to be
 pub shorter : (n : ℕ) (xs : List ℕ) → length (take n xs) ≤ n

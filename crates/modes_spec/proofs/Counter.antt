@@ -7,7 +7,7 @@ use lib.ListN.{length, getD, take, drop, length-drop, take-append-drop}
 use lib.Seq.{take-at, length-take-le, take-all}
 use Rattle.octets.specs.Bytes.{listOf, number, digits}
 use Rattle.octets.proofs.Bytes.{number-below, number-digits, number-after, digits-number, part-listOf, listOf-getD}
-use Rattle.modes.specs.Modes.{counterAt}
+use Rattle.modes_spec.specs.Modes.{counterAt}
 
 -- bytes 8 to 15 count, and bytes 0 to 7 stay
 pub count-at : (iv : List ℕ) → 8 ≤ length iv → (n : ℕ) → number 8 (counterAt iv n) 8 ≡ (number 8 iv 8 + n) % 2 ^ 64

@@ -7,8 +7,8 @@ use lib.ListN.{length, take, drop, length-drop}
 use lib.Seq.{drop-drop}
 use borrow.Rule.Slice.PartMut.{putMid}
 use Rattle.octets.proofs.Fill.{Filled, fill-none, fill-drop, fill-part}
-use Rattle.modes.specs.declared.Direction.{Direction}
-use Rattle.modes.specs.Modes.{Cipher, blockOut, blockChain, cbcBlocks, cbc, chainBlocks, chainEnd}
+use Rattle.modes_spec.specs.declared.Direction.{Direction}
+use Rattle.modes_spec.specs.Modes.{Cipher, blockOut, blockChain, cbcBlocks, cbc, chainBlocks, chainEnd}
 
 module _ (E D : Cipher) (d : Direction) (c xs : List ℕ) where
   -- one block more

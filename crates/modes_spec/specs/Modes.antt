@@ -5,8 +5,8 @@ use Prim.Native.Nat.{ℕ, zero, suc, _+_, _/_, _%_, _^_}
 use lib.ListN.{length, getD, take, drop}
 use Rattle.octets.specs.Bytes.{number, digits}
 use Rattle.octets.specs.Xor.{_⊕_}
-use Rattle.modes.specs.declared.Direction.{Direction}
-use Rattle.modes.specs.declared.Direction.the-variants.{Lock, Open}
+use Rattle.modes_spec.specs.declared.Direction.{Direction}
+use Rattle.modes_spec.specs.declared.Direction.the-variants.{Lock, Open}
 
 -- A block cipher under one key: a block in, a block out.
 abbrev pub Cipher : Type 0

@@ -1,17 +1,17 @@
 -- The modes undo each other: over strings of bytes, opening gives back what was locked and locking what was opened.
-use mathlib.Core.List.{List, [], _∷_, _++_}
+use mathlib.Core.List.{List, [], _∷_}
 use mathlib.Core.Path.{_≡_, refl, sym, ap, _∙_}
-use Prim.Native.Nat.{ℕ, zero, suc, _+_, _-_, _*_, _/_, _%_, _≤_, _<_}
+use Prim.Native.Nat.{ℕ, zero, suc, _-_, _*_, _/_, _%_, _≤_, _<_}
 use native.Mathlib.Omega.{arith}
-use lib.ListN.{length, getD, take, drop, length-append, length-drop, take-append-drop}
-use lib.Seq.{take-at, drop-at, getD-drop, length-take-le}
-use Rattle.octets.specs.Bytes.{Bytes, digits}
+use lib.ListN.{length, getD, take, drop, length-drop, take-append-drop}
+use lib.Seq.{take-at, drop-at, length-take-le}
+use Rattle.octets.specs.Bytes.{Bytes}
+use Rattle.octets.proofs.OfBytes.{bytes-take, bytes-drop, bytes-append, digits-bytes}
 use Rattle.octets.proofs.Xor.{⊕-back, ⊕-below}
-use Rattle.aes.specs.Block.{roundKeys, encipher, decipher, encipher-bytes, decipher-bytes, decipher-encipher, encipher-decipher}
-use Rattle.modes.specs.declared.Direction.{Direction}
-use Rattle.modes.specs.declared.Direction.the-variants.{Lock, Open}
-use Rattle.modes.specs.Modes.{Cipher, xors, counterAt, streamByte, ctr, blockOut, blockChain, cbcBlocks, cbc}
-use Rattle.modes.proofs.Strings.{length-xors}
+use Rattle.modes_spec.specs.declared.Direction.{Direction}
+use Rattle.modes_spec.specs.declared.Direction.the-variants.{Lock, Open}
+use Rattle.modes_spec.specs.Modes.{Cipher, xors, counterAt, streamByte, ctr, blockOut, blockChain, cbcBlocks, cbc}
+use Rattle.modes_spec.proofs.Strings.{length-xors}
 
 -- The direction that undoes a direction.
 unfoldable pub back : Direction → Direction
@@ -25,15 +25,6 @@ pub record Inverse (E D : Cipher) : Type 0 where
   pub encipher-bytes : {b : List ℕ} → Bytes 16 b → Bytes 16 (E b)
   pub decipher-bytes : {b : List ℕ} → Bytes 16 b → Bytes 16 (D b)
 
-pub aes-inverse : {key : List ℕ} → Bytes 16 key → Inverse (encipher (roundKeys key)) (decipher (roundKeys key))
-aes-inverse k =
-    record {
-      deciphered = decipher-encipher k;
-      enciphered = encipher-decipher k;
-      encipher-bytes = encipher-bytes k;
-      decipher-bytes = decipher-bytes k;
-    }
-
 -- f makes of bytes as many bytes, and g gives them back.
 pub record Undoes (g f : List ℕ → List ℕ) : Type 0 where
   pub keeps : {n : ℕ} {xs : List ℕ} → Bytes n xs → Bytes n (f xs)
@@ -42,38 +33,7 @@ pub record Undoes (g f : List ℕ → List ℕ) : Type 0 where
 pub same-undone : Undoes (λ xs. xs) (λ xs. xs)
 same-undone = record { keeps = λ b. b; undone = λ b. refl }
 
--- ---- Strings of bytes.
-
-bytes-none : Bytes 0 []
-bytes-none = record { size = refl; small = λ i. omega arith }
-
-bytes-cons : {n x : ℕ} {xs : List ℕ} → x < 256 → Bytes n xs → Bytes (suc n) (x ∷ xs)
-bytes-cons {n} {x} {xs} h b = record { size = ap suc (b .size); small = go }
-  where
-    go : (i : ℕ) → getD (x ∷ xs) i 0 < 256
-    go zero = h
-    go (suc i) = b .small i
-
-pub bytes-take : (m : ℕ) {n k : ℕ} (xs : List ℕ) → Bytes n xs → length (take m xs) ≡ k → Bytes k (take m xs)
-bytes-take m xs b e = record { size = e; small = go m xs (b .small) }
-  where
-    go : (m : ℕ) (xs : List ℕ) → ((i : ℕ) → getD xs i 0 < 256) → (i : ℕ) → getD (take m xs) i 0 < 256
-    go zero xs h i = omega arith
-    go (suc m) [] h i = h i
-    go (suc m) (x ∷ xs) h zero = h 0
-    go (suc m) (x ∷ xs) h (suc i) = go m xs (λ j. h (suc j)) i
-
-pub bytes-drop : (m : ℕ) {n k : ℕ} (xs : List ℕ) → Bytes n xs → length (drop m xs) ≡ k → Bytes k (drop m xs)
-bytes-drop m xs b e = record { size = e; small = λ i. rw (getD-drop m xs i 0) (b .small (m + i)) }
-
-pub bytes-append : {m n k : ℕ} {xs ys : List ℕ} → Bytes m xs → Bytes n ys → m + n ≡ k → Bytes k (xs ++ ys)
-bytes-append {xs = xs} {ys = ys} b c e =
-    record { size = length-append xs ys ∙ omega (arith, b .size, c .size); small = go xs (b .small) }
-  where
-    go : (xs : List ℕ) → ((i : ℕ) → getD xs i 0 < 256) → (i : ℕ) → getD (xs ++ ys) i 0 < 256
-    go [] h i = c .small i
-    go (x ∷ xs) h zero = h 0
-    go (x ∷ xs) h (suc i) = go xs (λ j. h (suc j)) i
+-- ---- Strings added.
 
 pub xors-bytes : {m n : ℕ} (xs ks : List ℕ) → Bytes m xs → Bytes n ks → Bytes m (xors xs ks)
 unfolding xors
@@ -90,11 +50,6 @@ unfolding xors
 xors-back [] ks = refl
 xors-back (x ∷ xs) [] = refl
 xors-back (x ∷ xs) (y ∷ ks) = rw (⊕-back x y, xors-back xs ks)
-
-digits-bytes : (n v : ℕ) → Bytes n (digits n v)
-unfolding digits
-digits-bytes zero v = bytes-none
-digits-bytes (suc n) v = bytes-append (digits-bytes n (v / 256)) (bytes-cons (omega arith) bytes-none) (omega arith)
 
 -- ---- The counter mode.
 

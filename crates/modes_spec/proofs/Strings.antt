@@ -6,7 +6,7 @@ use native.Mathlib.Numerals.{add-one}
 use native.Mathlib.Omega.{arith}
 use lib.ListN.{length, getD, take}
 use Rattle.octets.specs.Xor.{_⊕_}
-use Rattle.modes.specs.Modes.{xors}
+use Rattle.modes_spec.specs.Modes.{xors}
 
 pub xors-none : (ks : List ℕ) → xors [] ks ≡ []
 unfolding xors
