@@ -8,6 +8,19 @@ use aes::Block;
 use aes::RoundKeys;
 pub use modes_spec::Direction;
 
+// One block enciphered, and one deciphered.
+fn enciphered(keys: RoundKeys, bytes: [u8; 16]) -> [u8; 16]
+    ensures { λ r. ⌜ r ≡ block.encipher keys bytes ⌝ }
+{
+    Block::new(bytes).encipher(keys).bytes()
+}
+
+fn deciphered(keys: RoundKeys, bytes: [u8; 16]) -> [u8; 16]
+    ensures { λ r. ⌜ r ≡ block.decipher keys bytes ⌝ }
+{
+    Block::new(bytes).decipher(keys).bytes()
+}
+
 // The counter block n steps on: bytes 8 to 15 are a number that wraps to zero, and bytes 0 to 7 stay.
 fn counter_after(b: [u8; 16], n: u64) -> [u8; 16]
     ensures { λ r. ⌜ r ≡ spec.counterAt b n ⌝ }
@@ -56,7 +69,7 @@ pub fn ctr(keys: RoundKeys, counter: [u8; 16], used: usize, part: &mut [u8]) -> 
     while at < part.len() {
         let skip = (from + at) % 16;
         let end = at + octets::least(16 - skip, part.len() - at);
-        let pad = Block::new(b).encipher(keys).bytes();
+        let pad = enciphered(keys, b);
         xor_part(pad, skip, &mut part[at..end]);
         at = end;
         if (from + at) % 16 == 0 {
@@ -82,9 +95,7 @@ fn lock_block(keys: RoundKeys, chain: [u8; 16], part: &mut [u8]) -> [u8; 16]
     ensures { λ r. ⌜ (now (part .exit) ≡ block.encipher keys (spec.xors (now (part .entry)) chain))
         × (r ≡ block.encipher keys (spec.xors (now (part .entry)) chain)) ⌝ }
 {
-    let out = Block::new(xor_blocks(octets::sixteen(part), chain))
-        .encipher(keys)
-        .bytes();
+    let out = enciphered(keys, xor_blocks(octets::sixteen(part), chain));
     octets::copy(&out, part, 0);
     out
 }
@@ -94,13 +105,10 @@ fn open_block(keys: RoundKeys, chain: [u8; 16], part: &mut [u8]) -> [u8; 16]
     requires { ⌜ length (now part) ≡ 16 ⌝ }
     ensures { λ r. ⌜ (now (part .exit) ≡ spec.xors (block.decipher keys (now (part .entry))) chain) × (r ≡ now (part .entry)) ⌝ }
 {
-    let b = octets::sixteen(part);
-    octets::copy(
-        &xor_blocks(Block::new(b).decipher(keys).bytes(), chain),
-        part,
-        0,
-    );
-    b
+    let cipher = octets::sixteen(part);
+    let plain = xor_blocks(deciphered(keys, cipher), chain);
+    octets::copy(&plain, part, 0);
+    cipher
 }
 
 // One block of cipher block chaining where it lies; answers its cipher text.

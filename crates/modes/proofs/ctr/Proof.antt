@@ -1,6 +1,6 @@
 use mathlib.Core.List.{List}
-use mathlib.Core.Path.{_≡_, sym, ap, _∙_}
-use Prim.Native.Nat.{ℕ, _+_, _-_, _*_, _/_, _%_}
+use mathlib.Core.Path.{_≡_, sym, _∙_}
+use Prim.Native.Nat.{ℕ, _+_, _-_, _*_, _/_, _%_, _≤_}
 use lib.ListN.{length, getD, take, drop}
 use lib.Seq.{take-all}
 use borrow.Rule.Slice.PartMut.{putMid}
@@ -22,6 +22,19 @@ Inv-loop keys used part₀ from b₀ at₀ part b at = Streamed (encipher keys) 
 abbrev μ-loop : tie.MeasureT-loop
 μ-loop keys used part₀ from b₀ at₀ part b at = length part₀ - at
 
+-- the places: the counter block before the loop, a turn, the bytes that it takes, and these added to the key stream
+abbrev entered : tie.At-loop Inv-loop μ-loop → tie.After-counter-after Inv-loop μ-loop
+entered c = c .before
+
+abbrev turn : tie.After-least Inv-loop μ-loop → tie.At-loop Inv-loop μ-loop
+turn c = c .before .before
+
+abbrev taken : tie.After-xor-part Inv-loop μ-loop → tie.After-least Inv-loop μ-loop
+taken c = c .before .before .before
+
+abbrev added : tie.After-slice-known2 Inv-loop μ-loop → tie.After-xor-part Inv-loop μ-loop
+added c = c .before .before
+
 loop-holds : tie.Need-loop-holds Inv-loop μ-loop
 loop-holds c =
     let b = c .counter-after .result in
@@ -32,55 +45,57 @@ loop-holds c =
 
 xor-part-requires : tie.Need-xor-part-requires Inv-loop μ-loop
 xor-part-requires c κs =
-    let l = c .before .before .before .before .before .before .loop in
-    omega (arith, c .before .before .before .before .least .ensures, shorter (l .at + c .before .before .before .before .least .result - l .at) (drop (l .at) (l .part)))
+    let t = c .before .before in
+    let l = turn t .loop in
+    omega (arith, t .least .ensures, shorter (l .at + t .least .result - l .at) (drop (l .at) (l .part)))
 
 -- what the turn's part makes of the slice
 turned : (c : tie.After-xor-part Inv-loop μ-loop)
-    → (let l = c .before .before .before .before .before .before .before .loop in
-    let n : ℕ = c .before .before .before .before .before .least .result in
-    let a = c .before .before .before .before .before .before .before .before .before .before .args in
+    → (let l = turn (taken c) .loop in
+    let n : ℕ = taken c .least .result in
+    let e = entered (turn (taken c)) in
+    let a = e .before .before .args in
     Filled (a .part .now) (putMid (l .at) (l .at + n - l .at) (l .part) (c .xor-part .last .1 .1 .0))
-    (ctr (encipher (a .keys)) (c .before .before .before .before .before .before .before .before .counter-after .result) (a .used % 16) (take (l .at + n) (a .part .now))) (l .at + n))
+    (ctr (encipher (a .keys)) (e .counter-after .result) (a .used % 16) (take (l .at + n) (a .part .now))) (l .at + n))
 turned c =
-    let l = c .before .before .before .before .before .before .before .loop in
-    let n : ℕ = c .before .before .before .before .before .least .result in
-    let e = c .before .before .before .before .before .least .ensures in
-    let t = c .before .before .before .before .before .before .loop-test .taken in
-    let pad = c .before .before .bytes .result in
+    let t = taken c in
+    let l = turn t .loop in
+    let n : ℕ = t .least .result in
+    let pad = c .before .before .enciphered .result in
     let k : length pad ≡ 16 = search needs in
-    let p : pad ≡ encipher (c .before .before .before .before .before .before .before .before .before .before .args .keys) (l .b) =
-    c .before .before .bytes .ensures ∙ c .before .before .before .encipher .ensures ∙ ap (encipher (c .before .before .before .before .before .before .before .before .before .before .args .keys)) (c .before .before .before .before .new .ensures) in
-    stream-part (l .inv) n (omega (arith, e, t)) (omega (arith, e, t)) (omega (arith, e, t, fill-length (l .inv .filled))) pad
-    (c .xor-part .last .1 .1 .0) k p (c .xor-part .ensures)
+    stream-part (l .inv) n (omega (arith, t .least .ensures, t .before .loop-test .taken)) (omega (arith, t .least .ensures))
+    (omega (arith, t .least .ensures, t .before .loop-test .taken, fill-length (l .inv .filled))) pad
+    (c .xor-part .last .1 .1 .0) k (c .before .before .enciphered .ensures) (c .xor-part .ensures)
 
 loop-less : tie.Need-loop-less Inv-loop μ-loop
-loop-less c = omega (arith, fill-length (c .before .before .before .before .before .before .before .before .before .before .before .loop .inv .filled), c .before .before .before .before .before .before .before .before .before .least .ensures, c .before .before .before .before .before .before .before .before .before .before .loop-test .taken)
+loop-less c =
+    let t = taken (added (c .before .before)) in
+    omega (arith, fill-length (turn t .loop .inv .filled), t .least .ensures, t .before .loop-test .taken)
 
 loop-again : tie.Need-loop-again Inv-loop μ-loop
 loop-again c =
-    let s = c .before .before .before .before .before .before .before .before .before .before .before .loop .inv in
-    let n : ℕ = c .before .before .before .before .before .before .before .before .before .least .result in
-    let e = c .before .before .before .before .before .before .before .before .before .least .ensures in
-    let t = c .before .before .before .before .before .before .before .before .before .before .loop-test .taken in
-    let k : length (c .before .before .before .before .before .before .before .before .before .before .before .before .counter-after .result) ≡ 16 = search needs in
+    let t = taken (added (c .before .before)) in
+    let e = t .least .ensures in
+    let l = t .before .loop-test .taken in
+    let k : length (entered (turn t) .counter-after .result) ≡ 16 = search needs in
     record {
-      filled = turned (c .before .before .before .before);
-      block = c .counter-after2 .ensures ∙ stream-next s n (omega (arith, e, t)) (omega (arith, e, t)) (omega arith) (c .before .if1 .taken);
+      filled = turned (added (c .before .before));
+      block = c .counter-after2 .ensures ∙ stream-next (turn t .loop .inv) (t .least .result) (omega (arith, e, l)) (omega (arith, e, l)) (omega arith) (c .before .if1 .taken);
     }
 
 loop-less-2 : tie.Need-loop-less-2 Inv-loop μ-loop
-loop-less-2 c = omega (arith, fill-length (c .before .before .before .before .before .before .before .before .before .before .loop .inv .filled), c .before .before .before .before .before .before .before .before .least .ensures, c .before .before .before .before .before .before .before .before .before .loop-test .taken)
+loop-less-2 c =
+    let t = taken (added (c .before)) in
+    omega (arith, fill-length (turn t .loop .inv .filled), t .least .ensures, t .before .loop-test .taken)
 
 loop-again-2 : tie.Need-loop-again-2 Inv-loop μ-loop
 loop-again-2 c =
-    let s = c .before .before .before .before .before .before .before .before .before .before .loop .inv in
-    let n : ℕ = c .before .before .before .before .before .before .before .before .least .result in
-    let e = c .before .before .before .before .before .before .before .before .least .ensures in
-    let t = c .before .before .before .before .before .before .before .before .before .loop-test .taken in
+    let t = taken (added (c .before)) in
+    let e = t .least .ensures in
+    let l = t .before .loop-test .taken in
     record {
-      filled = turned (c .before .before .before);
-      block = stream-same s n (omega (arith, e, t)) (omega (arith, e, t)) (c .if1 .left);
+      filled = turned (added (c .before));
+      block = stream-same (turn t .loop .inv) (t .least .result) (omega (arith, e, l)) (omega (arith, e, l)) (c .if1 .left);
     }
 
 same-length : tie.Need-same-length Inv-loop μ-loop
@@ -105,6 +120,5 @@ pub ctr-spec : {M : Type 1} → statement M
 ctr-spec =
     tie.close
     (tie.spec Inv-loop μ-loop (search needs) loop-holds (search needs) (search needs) (search needs) (search needs)
-    (search needs) (search needs) (search needs) (search needs) (search needs) (search needs) (search needs)
-    xor-part-requires (search needs) (search needs) loop-less loop-again loop-less-2 loop-again-2 same-length
-    returns)
+    (search needs) (search needs) (search needs) (search needs) (search needs) xor-part-requires (search needs) (search needs)
+    loop-less loop-again loop-less-2 loop-again-2 same-length returns)
