@@ -11,7 +11,7 @@ use borrow.Author.Tests.{le-ltb, ne-eqb}
 use Rattle.octets.specs.Bytes.{digits, filled}
 use Rattle.octets.proofs.Bytes.{length-digits, filled-short, filled-all, getD-listOf}
 use Rattle.modes_spec.specs.Modes.{counterAt}
-use Rattle.track.specs.declared.Parameters.{Parameters}
+use Rattle.track_spec.specs.declared.Parameters.{Parameters}
 use Rattle.subsample.specs.Auxiliary.{ivRead}
 use Rattle.scheme.specs.Layout.{schemeOf}
 use Rattle.scheme.specs.Counters.{blocksNeeded, counterBlocks}

@@ -7,7 +7,7 @@ use lib.Dec.{ltb}
 use borrow.Author.Tests.{ltb-false, lt-ltb, le-ltb, ne-eqb}
 use Rattle.octets.specs.Answers.{answer}
 use Rattle.octets.proofs.Answers.{done-head, done-tail}
-use Rattle.track.specs.Track.{zeros}
+use Rattle.track_spec.specs.Track.{zeros}
 use Rattle.issuer.specs.declared.IvSize.{IvSize}
 use Rattle.issuer.specs.declared.IvSize.the-variants.{Eight, Sixteen}
 use Rattle.issuer.specs.declared.Issuer.{Issuer}

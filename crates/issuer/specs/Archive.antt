@@ -5,8 +5,8 @@ use mathlib.Core.Path.{_≡_}
 use Prim.Native.Nat.{ℕ, _≤_}
 use lib.ListN.{getD}
 use Rattle.octets.specs.Answers.{answer}
-use Rattle.track.specs.declared.Parameters.{Parameters}
-use Rattle.track.specs.Track.{fields}
+use Rattle.track_spec.specs.declared.Parameters.{Parameters}
+use Rattle.track_spec.specs.Track.{fields}
 use Rattle.subsample.specs.Auxiliary.{mapRead, ivRead}
 use Rattle.scheme.specs.Layout.{schemeOf, Entry}
 use Rattle.scheme.specs.Part.{entriesOf}

@@ -4,7 +4,7 @@ pub mod refusal;
 ghost use mathlib.Core.List.{_++_};
 ghost use mathlib.Core.Path.{_≡_};
 ghost use Rattle.octets.specs.Bytes.{filled};
-ghost use Rattle.track.specs.Track.{zeros};
+ghost use Rattle.track_spec.specs.Track.{zeros};
 ghost use Rattle.issuer.specs.Issuer as spec;
 use track::StartVector;
 use track::refusal::DONE;

@@ -8,8 +8,8 @@ use lib.Seq.{length-take-le, take-add, take-all, take-at, drop-at, drop-drop}
 use borrow.Author.Tests.{eq-eqb, ne-eqb, lt-ltb, le-ltb}
 use Rattle.octets.specs.Answers.{answer}
 use Rattle.modes_spec.specs.declared.Direction.the-variants.{Open}
-use Rattle.track.specs.declared.Parameters.{Parameters}
-use Rattle.track.specs.Track.{fields}
+use Rattle.track_spec.specs.declared.Parameters.{Parameters}
+use Rattle.track_spec.specs.Track.{fields}
 use Rattle.subsample.specs.Auxiliary.{mapRead, ivRead}
 use Rattle.subsample.specs.declared.SubsampleMap.{SubsampleMap}
 use Rattle.sample.specs.Sample.{keyIn, sampleRows}

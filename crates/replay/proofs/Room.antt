@@ -7,8 +7,8 @@ use native.Mathlib.Omega.{arith}
 use lib.Dec.{ltb, eqb}
 use borrow.Author.Tests.{ltb-false}
 use Rattle.octets.specs.Answers.{row, answer}
-use Rattle.track.specs.declared.Parameters.{Parameters}
-use Rattle.track.specs.Track.{known, badVersion, allowed, boxLength, writeRows, writeBox}
+use Rattle.track_spec.specs.declared.Parameters.{Parameters}
+use Rattle.track_spec.specs.Track.{known, badVersion, allowed, boxLength, writeRows, writeBox}
 
 by-rows : (a b c d : Bool) (room size : ℕ) → ltb room size ≡ d
     → cond (eqb (answer (row 1 a ∷ row 3 b ∷ row 4 c ∷ row 17 d ∷ [])) 0) size 0 ≤ room

@@ -15,9 +15,9 @@ use Rattle.aes.specs.Block.{roundKeys, encipher, decipher, encipher-length, dec
 use Rattle.modes_spec.specs.declared.Direction.{Direction}
 use Rattle.modes_spec.specs.Modes.{Cipher}
 use Rattle.modes_spec.proofs.Undone.{bytes-take, bytes-drop, bytes-append}
-use Rattle.track.specs.declared.Parameters.{Parameters}
-use Rattle.track.specs.Track.{zeros, hasConstant, fields}
-use Rattle.track.proofs.RoundTrip.{Accepted, accepted}
+use Rattle.track_spec.specs.declared.Parameters.{Parameters}
+use Rattle.track_spec.specs.Track.{zeros, hasConstant, fields}
+use Rattle.track_spec.proofs.RoundTrip.{Accepted, accepted}
 use Rattle.subsample.specs.declared.SubsampleMap.{SubsampleMap}
 use Rattle.subsample.specs.Auxiliary.{limit, longest, mapRows, mapRead, ivRead, auxiliaryRows}
 use Rattle.scheme.specs.Layout.{schemeOf, total}

@@ -8,8 +8,8 @@ use lib.ListN.{length, getD, drop, take}
 use Rattle.octets.specs.Answers.{answer}
 use Rattle.octets.specs.Bytes.{filled}
 use Rattle.modes_spec.specs.Modes.{counterAt}
-use Rattle.track.specs.declared.Parameters.{Parameters}
-use Rattle.track.specs.Track.{zeros, hasConstant, fields}
+use Rattle.track_spec.specs.declared.Parameters.{Parameters}
+use Rattle.track_spec.specs.Track.{zeros, hasConstant, fields}
 use Rattle.subsample.specs.Auxiliary.{mapRead, ivRead}
 use Rattle.scheme.specs.Layout.{schemeOf, Entry, total}
 use Rattle.scheme.specs.Part.{entriesOf}

@@ -9,8 +9,8 @@ use Rattle.octets.specs.Answers.{answer}
 use Rattle.octets.specs.Bytes.{filled}
 use Rattle.octets.proofs.Answers.{join-alike}
 use Rattle.octets.proofs.Bytes.{filled-listOf}
-use Rattle.track.specs.Track.{fields}
-use Rattle.track.proofs.Depends.{Alike, read-alike}
+use Rattle.track_spec.specs.Track.{fields}
+use Rattle.track_spec.proofs.Depends.{Alike, read-alike}
 use Rattle.subsample.specs.Auxiliary.{mapRead}
 use Rattle.subsample.proofs.Tables.{read-refusals}
 use Rattle.subsample.proofs.Depends.{AlikeData, listOf-alike, fields-alike, map-alike, auxiliary-alike}

@@ -11,8 +11,8 @@ use Rattle.octets.specs.Bytes.{Bytes, filled}
 use Rattle.modes_spec.specs.declared.Direction.{Direction}
 use Rattle.modes_spec.specs.Modes.{Cipher}
 use Rattle.modes_spec.proofs.Undone.{back, Inverse, aes-inverse, bytes-drop}
-use Rattle.track.specs.declared.Parameters.{Parameters}
-use Rattle.track.specs.Track.{zeros, fields}
+use Rattle.track_spec.specs.declared.Parameters.{Parameters}
+use Rattle.track_spec.specs.Track.{zeros, fields}
 use Rattle.subsample.specs.declared.SubsampleMap.{SubsampleMap}
 use Rattle.subsample.specs.Auxiliary.{mapRead, ivRead}
 use Rattle.scheme.specs.Layout.{schemeOf, mask}

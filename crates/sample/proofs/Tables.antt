@@ -6,9 +6,9 @@ use lib.Dec.{lit<}
 use borrow.Author.Tests.{ne-eqb}
 use Rattle.octets.specs.Answers.{answer}
 use Rattle.octets.proofs.Answers.{Refusals, none, more, join-done, join-refused, join-first}
-use Rattle.track.specs.declared.Parameters.{Parameters}
-use Rattle.track.specs.declared.BoxRead.{BoxRead}
-use Rattle.track.specs.Track.{zeros, fields, readRows, unprotected, readBox}
+use Rattle.track_spec.specs.declared.Parameters.{Parameters}
+use Rattle.track_spec.specs.declared.BoxRead.{BoxRead}
+use Rattle.track_spec.specs.Track.{zeros, fields, readRows, unprotected, readBox}
 use Rattle.subsample.specs.declared.AuxiliaryRead.{AuxiliaryRead}
 use Rattle.subsample.specs.Auxiliary.{emptyMap, mapRead, ivRead, auxiliaryRows, readUnder}
 use Rattle.subsample.specs.Auxiliary as auxiliary

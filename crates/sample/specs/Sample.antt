@@ -8,8 +8,8 @@ use Rattle.octets.specs.Answers.{Row, row, answer}
 use Rattle.octets.specs.Bytes.{same, filled}
 use Rattle.aes.specs.Block.{roundKeys, encipher, decipher}
 use Rattle.modes_spec.specs.declared.Direction.{Direction}
-use Rattle.track.specs.declared.Parameters.{Parameters}
-use Rattle.track.specs.Track.{zeros, fields, readRows, unprotected}
+use Rattle.track_spec.specs.declared.Parameters.{Parameters}
+use Rattle.track_spec.specs.Track.{zeros, fields, readRows, unprotected}
 use Rattle.subsample.specs.Auxiliary.{emptyMap, mapRead, ivRead, auxiliaryRows}
 use Rattle.scheme.specs.Part.{ciphered}
 use Rattle.sample.specs.declared.KeyFound.{KeyFound}

@@ -5,7 +5,7 @@ ghost use mathlib.Core.Path.{_≡_};
 ghost use lib.ListN.{length};
 ghost use Rattle.octets.specs.Answers.{answer};
 ghost use Rattle.modes_spec.specs.declared.Direction.the-variants.{Lock, Open};
-ghost use Rattle.track.specs.Track.{zeros, unprotected};
+ghost use Rattle.track_spec.specs.Track.{zeros, unprotected};
 ghost use Rattle.subsample.specs.Auxiliary.{emptyMap};
 ghost use Rattle.sample.specs.Sample as spec;
 use aes::Key;

@@ -13,9 +13,9 @@ use Rattle.octets.specs.Answers.{answer}
 use Rattle.octets.specs.Bytes.{same}
 use Rattle.octets.proofs.Answers.{done-head, done-tail}
 use Rattle.octets.proofs.Tests.{&&-left, &&-right}
-use Rattle.track.specs.declared.Parameters.{Parameters}
-use Rattle.track.specs.Track.{zeros, known, hasConstant, aPattern, eightOrSixteen, allowedProtected, allowedFields, allowed}
-use Rattle.track.proofs.Codes.{known-cases, allowed-small}
+use Rattle.track_spec.specs.declared.Parameters.{Parameters}
+use Rattle.track_spec.specs.Track.{zeros, known, hasConstant, aPattern, eightOrSixteen, allowedProtected, allowedFields, allowed}
+use Rattle.track_spec.proofs.Codes.{known-cases, allowed-small}
 use Rattle.subsample.specs.declared.SubsampleMap.{SubsampleMap}
 use Rattle.subsample.specs.Auxiliary.{limit, sum, entryLength, mapRows}
 use Rattle.scheme.specs.declared.Scheme.{Scheme}

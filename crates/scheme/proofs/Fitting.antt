@@ -10,7 +10,7 @@ use borrow.Author.Tests.{eqb-true, eq-eqb, leb-true, leb-false, le-leb, lt-leb}
 use Rattle.octets.proofs.Tests.{&&-left, &&-right}
 use Rattle.modes_spec.specs.declared.Direction.{Direction}
 use Rattle.modes_spec.specs.Modes.{Cipher}
-use Rattle.track.specs.declared.Parameters.{Parameters}
+use Rattle.track_spec.specs.declared.Parameters.{Parameters}
 use Rattle.subsample.specs.declared.SubsampleMap.{SubsampleMap}
 use Rattle.subsample.specs.Auxiliary.{longest}
 use Rattle.scheme.specs.Layout.{schemeOf, isCiphered, total, mask, count}

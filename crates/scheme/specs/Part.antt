@@ -7,7 +7,7 @@ use lib.Dec.{eqb, leb}
 use lib.ListN.{length}
 use Rattle.modes_spec.specs.declared.Direction.{Direction}
 use Rattle.modes_spec.specs.Modes.{Cipher}
-use Rattle.track.specs.declared.Parameters.{Parameters}
+use Rattle.track_spec.specs.declared.Parameters.{Parameters}
 use Rattle.subsample.specs.declared.SubsampleMap.{SubsampleMap}
 use Rattle.subsample.specs.Auxiliary.{longest}
 use Rattle.scheme.specs.Layout.{schemeOf, isCiphered, Entry, entry, entries, total}

@@ -7,8 +7,8 @@ use native.Mathlib.Omega.{arith}
 use lib.ListN.{length, take, drop}
 use borrow.Author.Tests.{lt-ltb, le-ltb, eq-eqb, ne-eqb}
 use Rattle.octets.specs.Answers.{Row, row, answer}
-use Rattle.track.specs.declared.BoxRead.{BoxRead}
-use Rattle.track.specs.Track.{known, readRows, readBox}
+use Rattle.track_spec.specs.declared.BoxRead.{BoxRead}
+use Rattle.track_spec.specs.Track.{known, readRows, readBox}
 use Rattle.sheet.specs.Sheet.{refused, sheet, told, lines}
 
 -- the number 1 is given for a code that is not known, and for nothing else

@@ -8,7 +8,7 @@ use lib.Dec.{ltb}
 use lib.ListN.{length, take}
 use lib.Seq.{length-take-le, take-all, take-take}
 use borrow.Author.Tests.{ltb-true, ltb-false}
-use Rattle.track.specs.Track.{known}
+use Rattle.track_spec.specs.Track.{known}
 use Rattle.sheet.specs.Sheet.{lines}
 use Rattle.sheet.proofs.Cases.{over}
 

@@ -5,7 +5,7 @@ use Prim.Native.Nat.{ℕ}
 use lib.ListN.{replicate}
 use Rattle.octets.specs.Answers.{answer}
 use Rattle.octets.specs.Bytes.{same, number, filled}
-use Rattle.track.specs.Track.{known, allowedProtected, allowedFields, allowed, fields, badFrame, badHead, badFields, readRows, readBox}
+use Rattle.track_spec.specs.Track.{known, allowedProtected, allowedFields, allowed, fields, badFrame, badHead, badFields, readRows, readBox}
 use Rattle.octets.specs.Ascii.{ascii}
 use Rattle.sheet.specs.Sheet.{decimal, hex, refused, patternLine, constantLine, sheet, told, lines}
 

@@ -6,9 +6,9 @@ use Prim.Native.Nat.{ℕ, _+_, _/_, _%_, _≤_}
 use lib.Dec.{eqb, ltb}
 use lib.ListN.{length, getD, take, drop}
 use Rattle.octets.specs.Ascii.{ascii}
-use Rattle.track.specs.Track.{known, hasConstant, readBox}
-use Rattle.track.specs.declared.Parameters.{Parameters}
-use Rattle.track.specs.declared.BoxRead.{BoxRead}
+use Rattle.track_spec.specs.Track.{known, hasConstant, readBox}
+use Rattle.track_spec.specs.declared.Parameters.{Parameters}
+use Rattle.track_spec.specs.declared.BoxRead.{BoxRead}
 
 -- ---- Numbers and bytes as text.
 

@@ -7,9 +7,9 @@ use lib.Dec.{eqb, ltb}
 use lib.ListN.{length}
 use Rattle.octets.specs.Answers.{answer}
 use Rattle.octets.proofs.Answers.{join-first}
-use Rattle.track.specs.declared.Parameters.{Parameters}
-use Rattle.track.specs.Track.{fields, parameterRows, writeRows}
-use Rattle.track.proofs.RoundTrip.{read-accepted}
+use Rattle.track_spec.specs.declared.Parameters.{Parameters}
+use Rattle.track_spec.specs.Track.{fields, parameterRows, writeRows}
+use Rattle.track_spec.proofs.RoundTrip.{read-accepted}
 use Rattle.subsample.specs.Auxiliary.{countWritten, entryCount, mapRead}
 use Rattle.sample.specs.Sample.{sampleRows}
 use Rattle.sample.proofs.Tables.{box-accepted}

@@ -9,11 +9,11 @@ use lib.ListN.{length}
 use borrow.Author.Tests.{eqb-true, eqb-false, eq-eqb, ne-eqb}
 use Rattle.octets.specs.Answers.{answer}
 use Rattle.modes_spec.specs.declared.Direction.{Direction}
-use Rattle.track.specs.declared.Parameters.{Parameters}
-use Rattle.track.specs.Track.{hasConstant, parameterRows, writeRows}
-use Rattle.track.proofs.Checking.{write-refused, write-done}
-use Rattle.track.proofs.Depends.{AlikeParameters, write-alike}
-use Rattle.track.proofs.Depends as track
+use Rattle.track_spec.specs.declared.Parameters.{Parameters}
+use Rattle.track_spec.specs.Track.{hasConstant, parameterRows, writeRows}
+use Rattle.track_spec.proofs.Checking.{write-refused, write-done}
+use Rattle.track_spec.proofs.Depends.{AlikeParameters, write-alike}
+use Rattle.track_spec.proofs.Depends as track
 use Rattle.subsample.specs.declared.SubsampleMap.{SubsampleMap}
 use Rattle.scheme.specs.Part.{entriesOf, heldUnder}
 use Rattle.sample.specs.Sample.{sampleRows}

@@ -13,8 +13,8 @@ use Rattle.octets.specs.Answers.{answer}
 use Rattle.aes.specs.Block.{roundKeys, encipher, decipher, encipher-length, decipher-length}
 use Rattle.modes_spec.specs.declared.Direction.{Direction}
 use Rattle.modes_spec.specs.Modes.{Cipher}
-use Rattle.track.specs.declared.Parameters.{Parameters}
-use Rattle.track.specs.Track.{parameterRows}
+use Rattle.track_spec.specs.declared.Parameters.{Parameters}
+use Rattle.track_spec.specs.Track.{parameterRows}
 use Rattle.subsample.specs.declared.SubsampleMap.{SubsampleMap}
 use Rattle.subsample.specs.Auxiliary.{longest, mapRows}
 use Rattle.scheme.specs.declared.Scheme.{Scheme}

@@ -9,8 +9,8 @@ use lib.ListN.{length, take, drop, replicate, length-append, length-drop}
 use borrow.Author.Tests.{eqb-true}
 use Rattle.aes.specs.Block.{roundKeys, encipher, decipher, encipher-length, decipher-length}
 use Rattle.modes_spec.specs.Modes.{Cipher}
-use Rattle.track.specs.declared.Parameters.{Parameters}
-use Rattle.track.proofs.Checking.{check-known, check-allowed}
+use Rattle.track_spec.specs.declared.Parameters.{Parameters}
+use Rattle.track_spec.proofs.Checking.{check-known, check-allowed}
 use Rattle.subsample.specs.declared.SubsampleMap.{SubsampleMap}
 use Rattle.subsample.specs.Auxiliary.{limit}
 use Rattle.scheme.specs.declared.Scheme.{Scheme}

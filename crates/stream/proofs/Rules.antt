@@ -14,8 +14,8 @@ use Rattle.octets.specs.Bytes.{same}
 use Rattle.octets.proofs.Answers.{done-head, done-tail}
 use Rattle.octets.proofs.Tests.{&&-left, &&-right}
 use Rattle.modes_spec.specs.declared.Direction.{Direction}
-use Rattle.track.specs.declared.Parameters.{Parameters}
-use Rattle.track.specs.Track.{known, allowedFields, allowed, fields, parameterRows}
+use Rattle.track_spec.specs.declared.Parameters.{Parameters}
+use Rattle.track_spec.specs.Track.{known, allowedFields, allowed, fields, parameterRows}
 use Rattle.subsample.specs.Auxiliary.{longest, some, sum, mapRows, mapRead}
 use Rattle.scheme.specs.Layout.{schemeOf}
 use Rattle.scheme.specs.Held.{heldAt}

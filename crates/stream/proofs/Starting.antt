@@ -5,7 +5,7 @@ use Prim.Native.Nat.{ℕ}
 use borrow.Author.Tests.{ne-eqb}
 use Rattle.octets.specs.Answers.{answer}
 use Rattle.modes_spec.specs.declared.Direction.{Direction}
-use Rattle.track.specs.Track.{zeros}
+use Rattle.track_spec.specs.Track.{zeros}
 use Rattle.sample.specs.declared.Inputs.{Inputs}
 use Rattle.sample.specs.Sample.{sampleRows, handedOut, readInputs}
 use Rattle.sample.proofs.Tables.{inputs-accepted}

@@ -6,7 +6,7 @@ use Prim.Native.Nat.{ℕ, _+_, _-_, _≤_}
 use lib.Dec.{eqb, ltb}
 use lib.ListN.{length, take}
 use Rattle.modes_spec.specs.declared.Direction.{Direction}
-use Rattle.track.specs.Track.{fields}
+use Rattle.track_spec.specs.Track.{fields}
 use Rattle.subsample.specs.Auxiliary.{mapRead}
 use Rattle.scheme.specs.Part.{heldUnder}
 use Rattle.sample.specs.Sample.{sampleAfter}

@@ -10,10 +10,10 @@ use borrow.Author.Tests.{eqb-true, eqb-false, lt-ltb, not-false}
 use Rattle.octets.specs.Answers.{answer}
 use Rattle.octets.specs.Bytes.{listOf, number}
 use Rattle.octets.proofs.Answers.{done-head, done-tail, join-alike}
-use Rattle.track.specs.declared.Parameters.{Parameters}
-use Rattle.track.specs.Track.{fields, readRows}
-use Rattle.track.proofs.Codes.{or-false-left, or-false-right}
-use Rattle.track.proofs.Depends.{Alike, read-alike}
+use Rattle.track_spec.specs.declared.Parameters.{Parameters}
+use Rattle.track_spec.specs.Track.{fields, readRows}
+use Rattle.track_spec.proofs.Codes.{or-false-left, or-false-right}
+use Rattle.track_spec.proofs.Depends.{Alike, read-alike}
 use Rattle.subsample.specs.Auxiliary.{sum, entryLength, written, countWritten, badSize, entryCount, mapRead, mapRows, auxiliaryRows}
 use Rattle.subsample.proofs.Tables.{read-refusals}
 

@@ -10,8 +10,8 @@ use borrow.Author.Tests.{ltb-true, eqb-true, eq-eqb, ne-eqb, not-false}
 use Rattle.octets.specs.Answers.{answer}
 use Rattle.octets.proofs.Answers.{Refusals, none, more, join-done, join-refused}
 use Rattle.octets.proofs.Tests.{&&-right}
-use Rattle.track.specs.declared.Parameters.{Parameters}
-use Rattle.track.specs.Track.{zeros, fields, readRows, readBox}
+use Rattle.track_spec.specs.declared.Parameters.{Parameters}
+use Rattle.track_spec.specs.Track.{zeros, fields, readRows, readBox}
 use Rattle.subsample.specs.Auxiliary.{emptyMap, written, badSize, auxiliaryRows, handedOut, readUnder, readAuxiliary}
 
 pub read-refusals : (code box : List ℕ) → Refusals (readRows code box)

@@ -6,8 +6,8 @@ use lib.Dec.{eqb, ltb}
 use lib.ListN.{length, getD, take, replicate}
 use Rattle.octets.specs.Answers.{Row, row, answer}
 use Rattle.octets.specs.Bytes.{listOf, same, number, filled}
-use Rattle.track.specs.Track.{cbc1, zeros, hasConstant, fields, readRows}
-use Rattle.track.specs.declared.Parameters.{Parameters}
+use Rattle.track_spec.specs.Track.{cbc1, zeros, hasConstant, fields, readRows}
+use Rattle.track_spec.specs.declared.Parameters.{Parameters}
 use Rattle.subsample.specs.declared.SubsampleMap.{SubsampleMap}
 use Rattle.subsample.specs.declared.AuxiliaryRead.{AuxiliaryRead}
 

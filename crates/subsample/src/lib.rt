@@ -8,7 +8,7 @@ ghost use lib.Dec.{eqb, ltb};
 ghost use lib.ListN.{length};
 ghost use Rattle.octets.specs.Answers.{answer};
 ghost use Rattle.octets.specs.Bytes.{listOf, same, number, filled};
-ghost use Rattle.track.specs.Track.{cbc1, zeros};
+ghost use Rattle.track_spec.specs.Track.{cbc1, zeros};
 ghost use Rattle.subsample.specs.Auxiliary as spec;
 use track::Parameters;
 use track::StartVector;

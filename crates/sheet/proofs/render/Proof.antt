@@ -2,7 +2,7 @@ use mathlib.Core.Path.{_≡_, ap, _∙_}
 use Prim.Native.Nat.{_-_}
 use lib.ListN.{length, take, drop, length-drop}
 use lib.Seq.{take-all}
-use Rattle.track.specs.Track.{readBox}
+use Rattle.track_spec.specs.Track.{readBox}
 use Rattle.sheet.proofs.Texts.{in-front}
 use Rattle.sheet.proofs.Cases.{lines-short, lines-unknown, lines-long, lines-refused, lines-done}
 use borrow.Author.Needs.{needs}

@@ -1,5 +1,5 @@
 use mathlib.Core.Path.{sym, ap, _∙_}
-use Rattle.track.specs.declared.BoxRead.{BoxRead}
+use Rattle.track_spec.specs.declared.BoxRead.{BoxRead}
 use Rattle.subsample.specs.Auxiliary.{readUnder}
 use Rattle.subsample.proofs.Tables.{box-refused, box-accepted, box-number}
 use borrow.Author.Needs.{needs}

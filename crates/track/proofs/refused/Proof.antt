@@ -1,4 +1,4 @@
-use Rattle.track.specs.Track.{unprotected}
+use Rattle.track_spec.specs.Track.{unprotected}
 use borrow.Author.Needs.{needs}
 use Rattle.track.proofs.refused.Statement.{statement}
 use Rattle.track.proofs.refused.Tie as tie

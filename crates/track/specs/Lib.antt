@@ -1,2 +1,0 @@
-pub mod Track
-pub mod Front

@@ -1,0 +1,18 @@
+use borrow.Author.Tests.{eq-eqb, ne-eqb, lt-ltb, le-ltb}
+use borrow.Author.Needs.{needs}
+use Rattle.track_allowed.proofs.bad_version.Statement.{statement}
+use Rattle.track_allowed.proofs.bad_version.Tie as tie
+
+returns : tie.Need-returns
+returns c = rw (lt-ltb _ _ (c .if1 .taken))
+
+returns-2 : tie.Need-returns-2
+returns-2 c = rw (le-ltb _ _ (c .before .before .if1 .left), eq-eqb _ _ (c .before .if2 .taken), c .no-pattern .ensures)
+
+returns-3 : tie.Need-returns-3
+returns-3 c = rw (le-ltb _ _ (c .before .if1 .left), ne-eqb _ _ (c .if2 .left))
+
+pub bad-version-spec : {M : Type 1} → statement M
+bad-version-spec =
+    tie.close
+    (tie.spec returns (search needs) returns-2 returns-3)

@@ -1,0 +1,42 @@
+-- The writer's answer: that of its parameters, and then 17.
+use mathlib.Core.Bool.{true}
+use mathlib.Core.Path.{_≡_}
+use Prim.Native.Nat.{ℕ, _≤_, _<_}
+use native.Mathlib.Omega.{arith}
+use lib.Dec.{lit<}
+use borrow.Author.Tests.{not-false}
+use Rattle.octets.specs.Answers.{answer}
+use Rattle.octets.proofs.Answers.{Refusals, none, more, done-head, done-tail, room-refused, room-short, room-enough, size-fits}
+use Rattle.track_spec.specs.declared.Parameters.{Parameters}
+use Rattle.track_spec.specs.Track.{known, allowed, boxLength, parameterRows, writeRows, writeBox}
+
+module _ (p : Parameters) where
+  pub parameter-refusals : Refusals (parameterRows p)
+  parameter-refusals = more (lit< tt) (more (lit< tt) (more (lit< tt) none))
+
+  pub check-known : answer (parameterRows p) ≡ 0 → known (p .code) ≡ true
+  check-known h = not-false _ (done-head 1 _ _ (omega arith) h)
+
+  pub check-allowed : answer (parameterRows p) ≡ 0 → allowed p ≡ true
+  check-allowed h = not-false _ (done-head 4 _ _ (omega arith) (done-tail 3 _ _ (omega arith) (done-tail 1 _ _ (omega arith) h)))
+
+  module _ (room : ℕ) where
+    abbrev long : ℕ
+    long = boxLength (p .protected) (p .«iv_size»)
+
+    pub write-refused : (n : ℕ) → n ≡ answer (parameterRows p) → (n ≡ 0 → ⊥) → answer (writeRows p room) ≡ n
+    unfolding writeRows
+    write-refused = room-refused parameter-refusals 17 room long (lit< tt)
+
+    pub write-short : answer (parameterRows p) ≡ 0 → room < long → answer (writeRows p room) ≡ 17
+    unfolding writeRows
+    write-short = room-short parameter-refusals 17 room long (lit< tt)
+
+    pub write-done : answer (parameterRows p) ≡ 0 → long ≤ room → answer (writeRows p room) ≡ 0
+    unfolding writeRows
+    write-done = room-enough parameter-refusals 17 room long (lit< tt)
+
+    -- a box that is written fits the output
+    pub written-fits : writeBox p room .length ≤ room
+    unfolding writeBox writeRows
+    written-fits = size-fits parameter-refusals 17 room long (lit< tt)

@@ -1,0 +1,175 @@
+-- Document 01, "The track box": the four scheme codes, the parameters that are allowed, the box read and written.
+use mathlib.Core.Bool.{Bool, cond, not, _&&_, _||_}
+use mathlib.Core.List.{List, [], _∷_, _++_}
+use Prim.Native.Nat.{ℕ, _+_, _*_, _/_, _%_}
+use lib.Dec.{eqb, leb, ltb}
+use lib.ListN.{length, getD, drop, replicate}
+use Rattle.octets.specs.Answers.{Row, row, answer}
+use Rattle.octets.specs.Ascii.{ascii}
+use Rattle.octets.specs.Bytes.{same, filled}
+use Rattle.boxes.specs.Box as frame
+use Rattle.track_spec.specs.declared.Parameters.{Parameters}
+use Rattle.track_spec.specs.declared.BoxRead.{BoxRead}
+use Rattle.track_spec.specs.declared.BoxWritten.{BoxWritten}
+
+-- The scheme codes and the box type.
+abbrev pub cenc : List ℕ
+cenc = ascii "cenc"
+
+abbrev pub cbc1 : List ℕ
+cbc1 = ascii "cbc1"
+
+abbrev pub cens : List ℕ
+cens = ascii "cens"
+
+abbrev pub cbcs : List ℕ
+cbcs = ascii "cbcs"
+
+abbrev pub tenc : List ℕ
+tenc = ascii "tenc"
+
+abbrev pub zeros : List ℕ
+zeros = replicate 16 0
+
+-- The code names one of the four schemes.
+unfoldable pub known : List ℕ → Bool
+known code = same code cenc || same code cbc1 || same code cens || same code cbcs
+
+-- ---- What is allowed.
+
+-- A protected track with no IV of its own for each sample has a constant one.
+abbrev pub hasConstant : ℕ → ℕ → Bool
+hasConstant protected ivSize = eqb protected 1 && eqb ivSize 0
+
+abbrev pub noPattern : ℕ → ℕ → Bool
+noPattern crypt skip = eqb crypt 0 && eqb skip 0
+
+-- Crypt 1 to 15, skip 0 to 15.
+abbrev pub aPattern : ℕ → ℕ → Bool
+aPattern crypt skip = leb 1 crypt && leb crypt 15 && leb skip 15
+
+abbrev pub eightOrSixteen : ℕ → Bool
+eightOrSixteen ivSize = eqb ivSize 8 || eqb ivSize 16
+
+-- What a protected track of each scheme may have.
+unfoldable pub allowedProtected : List ℕ → ℕ → ℕ → ℕ → Bool
+allowedProtected code ivSize crypt skip =
+    cond (same code cenc) (eightOrSixteen ivSize && noPattern crypt skip)
+    (cond (same code cbc1) (eqb ivSize 16 && noPattern crypt skip)
+    (cond (same code cens) (eightOrSixteen ivSize && aPattern crypt skip)
+    (eqb ivSize 0 && aPattern crypt skip)))
+
+-- What a track may have; the flag is 0 or 1.
+unfoldable pub allowedFields : List ℕ → ℕ → ℕ → ℕ → ℕ → Bool
+allowedFields code protected ivSize crypt skip =
+    cond (eqb protected 0) (eqb ivSize 0 && noPattern crypt skip)
+    (eqb protected 1 && allowedProtected code ivSize crypt skip)
+
+-- The fields are allowed, and where no constant IV is called for its 16 bytes are zero.
+unfoldable pub allowed : Parameters → Bool
+allowed p =
+    (hasConstant (p .protected) (p .«iv_size») || same (p .«constant_iv» .0) zeros)
+    && allowedFields (p .code) (p .protected) (p .«iv_size») (p .crypt) (p .skip)
+
+-- A version above 1, or a pattern in version 0.
+abbrev pub badVersion : ℕ → ℕ → ℕ → Bool
+badVersion version crypt skip = ltb 1 version || (eqb version 0 && not (noPattern crypt skip))
+
+-- The length that the fields call for.
+abbrev pub boxLength : ℕ → ℕ → ℕ
+boxLength protected ivSize = cond (hasConstant protected ivSize) 49 32
+
+-- ---- Reading.
+
+-- The parameters that stand from a place on, in a version: a zero byte, pattern byte, protected flag, IV size and KID; then, where
+-- it is called for, a constant IV size and the constant IV. A byte past the end counts as zero.
+unfoldable pub fieldsFrom : ℕ → List ℕ → ℕ → List ℕ → Parameters
+fieldsFrom at code version b =
+    record {
+      code = code;
+      version = version;
+      crypt = getD b (at + 1) 0 / 16;
+      skip = getD b (at + 1) 0 % 16;
+      protected = getD b (at + 2) 0;
+      «iv_size» = getD b (at + 3) 0;
+      kid = record { 0 = filled 16 (drop (at + 4) b) };
+      «constant_iv» = record { 0 = cond (hasConstant (getD b (at + 2) 0) (getD b (at + 3) 0)) (filled 16 (drop (at + 21) b)) zeros };
+    }
+
+-- Those of a box, after its header.
+unfoldable pub fields : List ℕ → List ℕ → Parameters
+fields code box = fieldsFrom 12 code (frame.version box) box
+
+-- 3: version above 1, flags or zero byte not zero, or a pattern in version 0.
+unfoldable pub badHead : List ℕ → Parameters → Bool
+badHead box p =
+    badVersion (p .version) (p .crypt) (p .skip) || not (eqb (frame.flags box) 0) || not (eqb (getD box 12 0) 0)
+
+-- 4: fields that aren't allowed, or a box that is longer or shorter than they call for; a constant IV has 16 bytes.
+unfoldable pub badFields : List ℕ → Parameters → Bool
+badFields box p =
+    not (allowed p) || not (eqb (length box) (boxLength (p .protected) (p .«iv_size»)))
+    || (hasConstant (p .protected) (p .«iv_size») && not (eqb (getD box 32 0) 16))
+
+-- 2: under 32 bytes, a size that isn't the slice's length, or a type that isn't `tenc`.
+unfoldable pub readRows : List ℕ → List ℕ → List Row
+readRows code box =
+    row 1 (not (known code)) ∷ row 2 (frame.badFrame 32 tenc box) ∷ row 3 (badHead box (fields code box))
+    ∷ row 4 (badFields box (fields code box)) ∷ []
+
+-- The parameters of an empty unprotected cenc track in version 0.
+abbrev pub unprotected : Parameters
+unprotected =
+    record {
+      code = cenc;
+      version = 0;
+      crypt = 0;
+      skip = 0;
+      protected = 0;
+      «iv_size» = 0;
+      kid = record { 0 = zeros };
+      «constant_iv» = record { 0 = zeros };
+    }
+
+unfoldable pub readBox : List ℕ → List ℕ → BoxRead
+readBox code box =
+    record {
+      answer = answer (readRows code box);
+      parameters = cond (eqb (answer (readRows code box)) 0) (fields code box) unprotected;
+    }
+
+-- ---- Writing.
+
+-- Zero byte, pattern byte, protected flag and IV size.
+abbrev pub frontBytes : Parameters → List ℕ
+frontBytes p = 0 ∷ (p .crypt * 16 + p .skip) ∷ p .protected ∷ p .«iv_size» ∷ []
+
+-- The bytes of parameters, as they follow a header.
+unfoldable pub fieldBytes : Parameters → List ℕ
+fieldBytes p =
+    frontBytes p ++ (p .kid .0 ++ cond (hasConstant (p .protected) (p .«iv_size»)) (16 ∷ p .«constant_iv» .0) [])
+
+-- The bytes of a box.
+unfoldable pub boxBytes : Parameters → List ℕ
+boxBytes p = frame.header (boxLength (p .protected) (p .«iv_size»)) tenc (p .version) 0 ++ fieldBytes p
+
+-- 1, 3 and 4 of parameters.
+abbrev pub parameterRows : Parameters → List Row
+parameterRows p =
+    row 1 (not (known (p .code))) ∷ row 3 (badVersion (p .version) (p .crypt) (p .skip)) ∷ row 4 (not (allowed p)) ∷ []
+
+-- The output's length is room.
+unfoldable pub writeRows : Parameters → ℕ → List Row
+writeRows p room = parameterRows p ++ (row 17 (ltb room (boxLength (p .protected) (p .«iv_size»))) ∷ [])
+
+unfoldable pub writeBox : Parameters → ℕ → BoxWritten
+writeBox p room =
+    record {
+      answer = answer (writeRows p room);
+      length = cond (eqb (answer (writeRows p room)) 0) (boxLength (p .protected) (p .«iv_size»)) 0;
+    }
+
+-- The output after writing: the box in front, and nothing else changed; after a refusal, as it was.
+unfoldable pub afterWriting : Parameters → List ℕ → List ℕ
+afterWriting p out =
+    cond (eqb (answer (writeRows p (length out))) 0) (boxBytes p ++ drop (boxLength (p .protected) (p .«iv_size»)) out) out
