@@ -12,7 +12,7 @@ use Rattle.octets.specs.Bytes.{digits, filled}
 use Rattle.octets.proofs.Bytes.{length-digits, filled-short, filled-all, getD-listOf}
 use Rattle.modes_spec.specs.Modes.{counterAt}
 use Rattle.track_spec.specs.declared.Parameters.{Parameters}
-use Rattle.subsample.specs.Auxiliary.{ivRead}
+use Rattle.subsample_spec.specs.Auxiliary.{ivRead}
 use Rattle.scheme.specs.Layout.{schemeOf}
 use Rattle.scheme.specs.Counters.{blocksNeeded, counterBlocks}
 use Rattle.scheme.proofs.Counters.{count-total}

@@ -7,7 +7,7 @@ use lib.ListN.{getD}
 use Rattle.octets.specs.Answers.{answer}
 use Rattle.track_spec.specs.declared.Parameters.{Parameters}
 use Rattle.track_spec.specs.Track.{fields}
-use Rattle.subsample.specs.Auxiliary.{mapRead, ivRead}
+use Rattle.subsample_spec.specs.Auxiliary.{mapRead, ivRead}
 use Rattle.scheme.specs.Layout.{schemeOf, Entry}
 use Rattle.scheme.specs.Part.{entriesOf}
 use Rattle.scheme.specs.Counters.{blocksNeeded, counterBlocks}

@@ -14,7 +14,7 @@ ghost use Rattle.scheme.specs.Machine.{free, feedSample};
 ghost use Rattle.scheme.specs.Part.{protectedEntries, fits as fitsIn, transformed};
 ghost use Rattle.scheme.proofs.Passes.{left};
 ghost use Rattle.scheme.proofs.Walk.{SampleAsks};
-ghost use Rattle.subsample.specs.Auxiliary.{limit, longest};
+ghost use Rattle.subsample_spec.specs.Auxiliary.{limit, longest};
 use aes::RoundKeys;
 use modes::Direction;
 use scheme::Scheme;

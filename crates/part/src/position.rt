@@ -7,7 +7,7 @@ ghost use Rattle.scheme.specs.Layout.{entry, entries, total, mask, count as cou
 ghost use Rattle.scheme.specs.Held.{heldAt};
 ghost use Rattle.scheme.specs.Part.{protectedEntries, heldUnder};
 ghost use Rattle.scheme.proofs.Walk.{Located};
-ghost use Rattle.subsample.specs.Auxiliary.{limit};
+ghost use Rattle.subsample_spec.specs.Auxiliary.{limit};
 use crate::runs;
 use scheme::Scheme;
 use subsample::SubsampleMap;

@@ -9,7 +9,7 @@ ghost use Rattle.scheme.specs.Layout.{entries};
 ghost use Rattle.scheme.specs.Machine.{Chain, modeOf};
 ghost use Rattle.scheme.proofs.Passes.{Passes};
 ghost use Rattle.scheme.proofs.Walk.{RestartsAt, Blocks, RangeAsks, RangeSays, EntryAsks, EntrySays, SampleAsks, SampleSays};
-ghost use Rattle.subsample.specs.Auxiliary.{limit};
+ghost use Rattle.subsample_spec.specs.Auxiliary.{limit};
 use crate::runs;
 use aes::RoundKeys;
 use modes::Direction;

@@ -10,8 +10,8 @@ use Rattle.octets.specs.Answers.{answer}
 use Rattle.modes_spec.specs.declared.Direction.the-variants.{Open}
 use Rattle.track_spec.specs.declared.Parameters.{Parameters}
 use Rattle.track_spec.specs.Track.{fields}
-use Rattle.subsample.specs.Auxiliary.{mapRead, ivRead}
-use Rattle.subsample.specs.declared.SubsampleMap.{SubsampleMap}
+use Rattle.subsample_spec.specs.Auxiliary.{mapRead, ivRead}
+use Rattle.subsample_spec.specs.declared.SubsampleMap.{SubsampleMap}
 use Rattle.sample.specs.Sample.{keyIn, sampleRows}
 use Rattle.sample.proofs.RoundTrip.{length-after}
 use Rattle.stream.specs.declared.Stream.{Stream}

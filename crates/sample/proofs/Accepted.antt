@@ -18,8 +18,8 @@ use Rattle.modes_spec.proofs.Undone.{bytes-take, bytes-drop, bytes-append}
 use Rattle.track_spec.specs.declared.Parameters.{Parameters}
 use Rattle.track_spec.specs.Track.{zeros, hasConstant, fields}
 use Rattle.track_spec.proofs.RoundTrip.{Accepted, accepted}
-use Rattle.subsample.specs.declared.SubsampleMap.{SubsampleMap}
-use Rattle.subsample.specs.Auxiliary.{limit, longest, mapRows, mapRead, ivRead, auxiliaryRows}
+use Rattle.subsample_spec.specs.declared.SubsampleMap.{SubsampleMap}
+use Rattle.subsample_spec.specs.Auxiliary.{limit, longest, mapRows, mapRead, ivRead, auxiliaryRows}
 use Rattle.scheme.specs.Layout.{schemeOf, total}
 use Rattle.scheme.specs.Part.{entriesOf, ciphered, fits, transformed}
 use Rattle.scheme.proofs.Pieces.{Sized}

@@ -10,7 +10,7 @@ use Rattle.octets.specs.Bytes.{filled}
 use Rattle.modes_spec.specs.Modes.{counterAt}
 use Rattle.track_spec.specs.declared.Parameters.{Parameters}
 use Rattle.track_spec.specs.Track.{zeros, hasConstant, fields}
-use Rattle.subsample.specs.Auxiliary.{mapRead, ivRead}
+use Rattle.subsample_spec.specs.Auxiliary.{mapRead, ivRead}
 use Rattle.scheme.specs.Layout.{schemeOf, Entry, total}
 use Rattle.scheme.specs.Part.{entriesOf}
 use Rattle.scheme.specs.Counters.{blocksNeeded, counterBlocks}

@@ -11,9 +11,9 @@ use Rattle.octets.proofs.Answers.{join-alike}
 use Rattle.octets.proofs.Bytes.{filled-listOf}
 use Rattle.track_spec.specs.Track.{fields}
 use Rattle.track_spec.proofs.Depends.{Alike, read-alike}
-use Rattle.subsample.specs.Auxiliary.{mapRead}
-use Rattle.subsample.proofs.Tables.{read-refusals}
-use Rattle.subsample.proofs.Depends.{AlikeData, listOf-alike, fields-alike, map-alike, auxiliary-alike}
+use Rattle.subsample_spec.specs.Auxiliary.{mapRead}
+use Rattle.track_spec.proofs.Checking.{read-refusals}
+use Rattle.subsample_spec.proofs.Depends.{AlikeData, listOf-alike, fields-alike, map-alike, auxiliary-alike}
 use Rattle.sample.specs.Sample.{keyRows, sampleRows}
 use Rattle.sample.proofs.Tables.{key-refusals}
 

@@ -13,8 +13,8 @@ use Rattle.modes_spec.specs.Modes.{Cipher}
 use Rattle.modes_spec.proofs.Undone.{back, Inverse, aes-inverse, bytes-drop}
 use Rattle.track_spec.specs.declared.Parameters.{Parameters}
 use Rattle.track_spec.specs.Track.{zeros, fields}
-use Rattle.subsample.specs.declared.SubsampleMap.{SubsampleMap}
-use Rattle.subsample.specs.Auxiliary.{mapRead, ivRead}
+use Rattle.subsample_spec.specs.declared.SubsampleMap.{SubsampleMap}
+use Rattle.subsample_spec.specs.Auxiliary.{mapRead, ivRead}
 use Rattle.scheme.specs.Layout.{schemeOf, mask}
 use Rattle.scheme.specs.Part.{entriesOf, ciphered}
 use Rattle.scheme.proofs.Undone.{whole-back, length-whole, unmarked-stay}

@@ -9,10 +9,10 @@ use Rattle.octets.proofs.Answers.{Refusals, none, more, join-done, join-refused
 use Rattle.track_spec.specs.declared.Parameters.{Parameters}
 use Rattle.track_spec.specs.declared.BoxRead.{BoxRead}
 use Rattle.track_spec.specs.Track.{zeros, fields, readRows, unprotected, readBox}
-use Rattle.subsample.specs.declared.AuxiliaryRead.{AuxiliaryRead}
-use Rattle.subsample.specs.Auxiliary.{emptyMap, mapRead, ivRead, auxiliaryRows, readUnder}
-use Rattle.subsample.specs.Auxiliary as auxiliary
-use Rattle.subsample.proofs.Tables.{read-refusals}
+use Rattle.subsample_spec.specs.declared.AuxiliaryRead.{AuxiliaryRead}
+use Rattle.subsample_spec.specs.Auxiliary.{emptyMap, mapRead, ivRead, auxiliaryRows, readUnder}
+use Rattle.subsample_spec.specs.Auxiliary as auxiliary
+use Rattle.track_spec.proofs.Checking.{read-refusals}
 use Rattle.sample.specs.declared.KeyFound.{KeyFound}
 use Rattle.sample.specs.declared.Inputs.{Inputs}
 use Rattle.sample.specs.Sample.{keyRows, keyIn, findKey, sampleRows, handedOut, readInputs}

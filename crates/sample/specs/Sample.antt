@@ -10,7 +10,7 @@ use Rattle.aes.specs.Block.{roundKeys, encipher, decipher}
 use Rattle.modes_spec.specs.declared.Direction.{Direction}
 use Rattle.track_spec.specs.declared.Parameters.{Parameters}
 use Rattle.track_spec.specs.Track.{zeros, fields, readRows, unprotected}
-use Rattle.subsample.specs.Auxiliary.{emptyMap, mapRead, ivRead, auxiliaryRows}
+use Rattle.subsample_spec.specs.Auxiliary.{emptyMap, mapRead, ivRead, auxiliaryRows}
 use Rattle.scheme.specs.Part.{ciphered}
 use Rattle.sample.specs.declared.KeyFound.{KeyFound}
 use Rattle.sample.specs.declared.Inputs.{Inputs}

@@ -6,7 +6,7 @@ ghost use lib.ListN.{length};
 ghost use Rattle.octets.specs.Answers.{answer};
 ghost use Rattle.modes_spec.specs.declared.Direction.the-variants.{Lock, Open};
 ghost use Rattle.track_spec.specs.Track.{zeros, unprotected};
-ghost use Rattle.subsample.specs.Auxiliary.{emptyMap};
+ghost use Rattle.subsample_spec.specs.Auxiliary.{emptyMap};
 ghost use Rattle.sample.specs.Sample as spec;
 use aes::Key;
 use modes::Direction;

@@ -16,8 +16,8 @@ use Rattle.octets.proofs.Tests.{&&-left, &&-right}
 use Rattle.track_spec.specs.declared.Parameters.{Parameters}
 use Rattle.track_spec.specs.Track.{zeros, known, hasConstant, aPattern, eightOrSixteen, allowedProtected, allowedFields, allowed}
 use Rattle.track_spec.proofs.Codes.{known-cases, allowed-small}
-use Rattle.subsample.specs.declared.SubsampleMap.{SubsampleMap}
-use Rattle.subsample.specs.Auxiliary.{limit, sum, entryLength, mapRows}
+use Rattle.subsample_spec.specs.declared.SubsampleMap.{SubsampleMap}
+use Rattle.subsample_spec.specs.Auxiliary.{limit, sum, entryLength, mapRows}
 use Rattle.scheme.specs.declared.Scheme.{Scheme}
 use Rattle.scheme.specs.declared.Scheme.the-variants.{Cenc, Cbc1, Cens, Cbcs}
 use Rattle.scheme.specs.Layout.{schemeOf, inWholeBlock, inCryptRun, isCiphered, Entry, entry, entries, total}

@@ -11,8 +11,8 @@ use Rattle.octets.proofs.Tests.{&&-left, &&-right}
 use Rattle.modes_spec.specs.declared.Direction.{Direction}
 use Rattle.modes_spec.specs.Modes.{Cipher}
 use Rattle.track_spec.specs.declared.Parameters.{Parameters}
-use Rattle.subsample.specs.declared.SubsampleMap.{SubsampleMap}
-use Rattle.subsample.specs.Auxiliary.{longest}
+use Rattle.subsample_spec.specs.declared.SubsampleMap.{SubsampleMap}
+use Rattle.subsample_spec.specs.Auxiliary.{longest}
 use Rattle.scheme.specs.Layout.{schemeOf, isCiphered, total, mask, count}
 use Rattle.scheme.specs.Machine.{free, feedSample}
 use Rattle.scheme.specs.Part.{protectedEntries, entriesOf, heldUnder, fits, feedUnder, transformed}

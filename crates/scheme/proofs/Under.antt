@@ -11,7 +11,7 @@ use Rattle.octets.specs.Bytes.{Bytes}
 use Rattle.modes_spec.specs.declared.Direction.{Direction}
 use Rattle.modes_spec.specs.Modes.{Cipher}
 use Rattle.track_spec.specs.declared.Parameters.{Parameters}
-use Rattle.subsample.specs.declared.SubsampleMap.{SubsampleMap}
+use Rattle.subsample_spec.specs.declared.SubsampleMap.{SubsampleMap}
 use Rattle.scheme.specs.declared.Scheme.{Scheme}
 use Rattle.scheme.specs.declared.Scheme.the-variants.{Cenc, Cbc1, Cens, Cbcs}
 use Rattle.scheme.specs.Layout.{schemeOf, isCiphered, restarts, Entry, entry, total, mask, restartMask}

@@ -8,8 +8,8 @@ use lib.ListN.{length}
 use Rattle.modes_spec.specs.declared.Direction.{Direction}
 use Rattle.modes_spec.specs.Modes.{Cipher}
 use Rattle.track_spec.specs.declared.Parameters.{Parameters}
-use Rattle.subsample.specs.declared.SubsampleMap.{SubsampleMap}
-use Rattle.subsample.specs.Auxiliary.{longest}
+use Rattle.subsample_spec.specs.declared.SubsampleMap.{SubsampleMap}
+use Rattle.subsample_spec.specs.Auxiliary.{longest}
 use Rattle.scheme.specs.Layout.{schemeOf, isCiphered, Entry, entry, entries, total}
 use Rattle.scheme.specs.WholeSample.{whole}
 use Rattle.scheme.specs.Machine.{State, Stepped, free, feedSample}

@@ -10,7 +10,7 @@ use Rattle.octets.proofs.Answers.{join-first}
 use Rattle.track_spec.specs.declared.Parameters.{Parameters}
 use Rattle.track_spec.specs.Track.{fields, parameterRows, writeRows}
 use Rattle.track_spec.proofs.RoundTrip.{read-accepted}
-use Rattle.subsample.specs.Auxiliary.{countWritten, entryCount, mapRead}
+use Rattle.subsample_spec.specs.Auxiliary.{countWritten, entryCount, mapRead}
 use Rattle.sample.specs.Sample.{sampleRows}
 use Rattle.sample.proofs.Tables.{box-accepted}
 use Rattle.sample.proofs.Accepted.{length-allowed, map-accepted}

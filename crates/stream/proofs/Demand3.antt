@@ -13,8 +13,8 @@ use Rattle.aes.specs.Block.{roundKeys, encipher, decipher, encipher-length, dec
 use Rattle.modes_spec.specs.declared.Direction.{Direction}
 use Rattle.track_spec.specs.declared.Parameters.{Parameters}
 use Rattle.track_spec.specs.Track.{fields}
-use Rattle.subsample.specs.declared.SubsampleMap.{SubsampleMap}
-use Rattle.subsample.specs.Auxiliary.{mapRead, ivRead}
+use Rattle.subsample_spec.specs.declared.SubsampleMap.{SubsampleMap}
+use Rattle.subsample_spec.specs.Auxiliary.{mapRead, ivRead}
 use Rattle.scheme.specs.Layout.{schemeOf, total}
 use Rattle.scheme.specs.Machine as machine
 use Rattle.scheme.specs.Part.{entriesOf, ciphered, heldUnder, feedUnder}

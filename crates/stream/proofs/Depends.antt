@@ -14,7 +14,7 @@ use Rattle.track_spec.specs.Track.{hasConstant, parameterRows, writeRows}
 use Rattle.track_spec.proofs.Checking.{write-refused, write-done}
 use Rattle.track_spec.proofs.Depends.{AlikeParameters, write-alike}
 use Rattle.track_spec.proofs.Depends as track
-use Rattle.subsample.specs.declared.SubsampleMap.{SubsampleMap}
+use Rattle.subsample_spec.specs.declared.SubsampleMap.{SubsampleMap}
 use Rattle.scheme.specs.Part.{entriesOf, heldUnder}
 use Rattle.sample.specs.Sample.{sampleRows}
 use Rattle.sample.proofs.Depends.{AlikeInputs, boxes-alike, maps-alike, inputs-alike}

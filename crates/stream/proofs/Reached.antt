@@ -15,8 +15,8 @@ use Rattle.modes_spec.specs.declared.Direction.{Direction}
 use Rattle.modes_spec.specs.Modes.{Cipher}
 use Rattle.track_spec.specs.declared.Parameters.{Parameters}
 use Rattle.track_spec.specs.Track.{parameterRows}
-use Rattle.subsample.specs.declared.SubsampleMap.{SubsampleMap}
-use Rattle.subsample.specs.Auxiliary.{longest, mapRows}
+use Rattle.subsample_spec.specs.declared.SubsampleMap.{SubsampleMap}
+use Rattle.subsample_spec.specs.Auxiliary.{longest, mapRows}
 use Rattle.scheme.specs.declared.Scheme.{Scheme}
 use Rattle.scheme.specs.Layout.{schemeOf, Entry, mask, count}
 use Rattle.scheme.specs.Machine.{State, Stepped, Mode, Counter, Chain, free, modeOf, feedSample}

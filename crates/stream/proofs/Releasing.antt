@@ -11,8 +11,8 @@ use Rattle.aes.specs.Block.{roundKeys, encipher, decipher, encipher-length, dec
 use Rattle.modes_spec.specs.Modes.{Cipher}
 use Rattle.track_spec.specs.declared.Parameters.{Parameters}
 use Rattle.track_spec.proofs.Checking.{check-known, check-allowed}
-use Rattle.subsample.specs.declared.SubsampleMap.{SubsampleMap}
-use Rattle.subsample.specs.Auxiliary.{limit}
+use Rattle.subsample_spec.specs.declared.SubsampleMap.{SubsampleMap}
+use Rattle.subsample_spec.specs.Auxiliary.{limit}
 use Rattle.scheme.specs.declared.Scheme.{Scheme}
 use Rattle.scheme.specs.Layout.{schemeOf, Entry, total, mask, count}
 use Rattle.scheme.specs.Machine.{Stepped, free}

@@ -16,7 +16,7 @@ use Rattle.octets.proofs.Tests.{&&-left, &&-right}
 use Rattle.modes_spec.specs.declared.Direction.{Direction}
 use Rattle.track_spec.specs.declared.Parameters.{Parameters}
 use Rattle.track_spec.specs.Track.{known, allowedFields, allowed, fields, parameterRows}
-use Rattle.subsample.specs.Auxiliary.{longest, some, sum, mapRows, mapRead}
+use Rattle.subsample_spec.specs.Auxiliary.{longest, some, sum, mapRows, mapRead}
 use Rattle.scheme.specs.Layout.{schemeOf}
 use Rattle.scheme.specs.Held.{heldAt}
 use Rattle.scheme.specs.Part.{entriesOf, heldUnder}

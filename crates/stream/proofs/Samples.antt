@@ -10,7 +10,7 @@ use Rattle.octets.specs.Xor.{_⊕_}
 use Rattle.modes_spec.specs.declared.Direction.the-variants.{Lock}
 use Rattle.modes_spec.specs.Modes.{counterAt, streamByte, ctr}
 use Rattle.track_spec.specs.Track.{cenc, cbc1, tenc, known, allowedProtected, allowedFields, allowed, fields, badFrame, badHead, badFields, readRows}
-use Rattle.subsample.specs.Auxiliary.{emptyMap, some, sum, mapRows, badSize, entryCount, mapRead, auxiliaryRows}
+use Rattle.subsample_spec.specs.Auxiliary.{emptyMap, some, sum, mapRows, badSize, entryCount, mapRead, auxiliaryRows}
 use Rattle.scheme.specs.declared.Scheme.the-variants.{Cenc, Cbc1, Cens, Cbcs}
 use Rattle.scheme.specs.Layout.{schemeOf, inWholeBlock, inCryptRun, isCiphered, Entry, entry, tabulate, rangeMarks, marks, mask, count, chosen, replaced}
 use Rattle.scheme.specs.WholeSample.{over, whole}

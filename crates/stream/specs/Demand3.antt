@@ -7,7 +7,7 @@ use lib.Dec.{eqb, ltb}
 use lib.ListN.{length, take}
 use Rattle.modes_spec.specs.declared.Direction.{Direction}
 use Rattle.track_spec.specs.Track.{fields}
-use Rattle.subsample.specs.Auxiliary.{mapRead}
+use Rattle.subsample_spec.specs.Auxiliary.{mapRead}
 use Rattle.scheme.specs.Part.{heldUnder}
 use Rattle.sample.specs.Sample.{sampleAfter}
 use Rattle.stream.specs.declared.Stream.{Stream}

@@ -9,7 +9,7 @@ use Rattle.aes.specs.Block.{roundKeys, encipher, decipher}
 use Rattle.modes_spec.specs.declared.Direction.{Direction}
 use Rattle.modes_spec.specs.declared.Direction.the-variants.{Open}
 use Rattle.track_spec.specs.Track.{zeros, fields, unprotected, parameterRows}
-use Rattle.subsample.specs.Auxiliary.{longest, emptyMap, mapRows, mapRead, ivRead}
+use Rattle.subsample_spec.specs.Auxiliary.{longest, emptyMap, mapRows, mapRead, ivRead}
 use Rattle.scheme.specs.Machine.{State, Stepped}
 use Rattle.scheme.specs.Part.{heldUnder, feedUnder}
 use Rattle.sample.specs.Sample.{keyIn, sampleRows}

@@ -1,50 +1,17 @@
-// A sample's auxiliary data: the IV and the subsample map (document 01, "A sample's auxiliary data").
-pub mod refusal;
-
-ghost use mathlib.Core.Bool.{not, _&&_};
+// A sample's auxiliary data, read: the IV and the subsample map (document 01, "A sample's auxiliary data").
 ghost use mathlib.Core.Path.{_≡_};
-ghost use Prim.Native.Nat.{_+_, _*_, _≤_, _<_};
-ghost use lib.Dec.{eqb, ltb};
+ghost use Prim.Native.Nat.{_+_, _*_, _≤_};
 ghost use lib.ListN.{length};
-ghost use Rattle.octets.specs.Answers.{answer};
-ghost use Rattle.octets.specs.Bytes.{listOf, same, number, filled};
-ghost use Rattle.track_spec.specs.Track.{cbc1, zeros};
-ghost use Rattle.subsample.specs.Auxiliary as spec;
+ghost use Rattle.octets.specs.Bytes.{listOf, number, filled};
+ghost use Rattle.track_spec.specs.Track.{zeros};
+ghost use Rattle.subsample_spec.specs.Auxiliary as spec;
+pub use subsample_map::check_map;
+pub use subsample_spec::AuxiliaryRead;
+pub use subsample_spec::SubsampleMap;
+pub use subsample_spec::refusal;
 use track::Parameters;
 use track::StartVector;
-
-const LIMIT: usize = 64;
-
-// The entries of a sample: clear and protected lengths, and how many are used; unused places are zero.
-pub struct SubsampleMap {
-    pub clear: [u16; LIMIT],
-    pub protected: [u32; LIMIT],
-    pub count: usize,
-}
-
-impl SubsampleMap {
-    pub const LIMIT: usize = LIMIT;
-
-    // The longest sample that a map describes, in bytes.
-    pub const LONGEST_SAMPLE: usize = 16777216;
-
-    pub fn empty() -> SubsampleMap
-        ensures { λ r. ⌜ r ≡ spec.emptyMap ⌝ }
-    {
-        SubsampleMap {
-            clear: [0; LIMIT],
-            protected: [0; LIMIT],
-            count: 0,
-        }
-    }
-}
-
-// What reading auxiliary data answers.
-pub struct AuxiliaryRead {
-    pub number: u8,
-    pub map: SubsampleMap,
-    pub iv: StartVector,
-}
+use track::refusal::DONE;
 
 // A byte of a string, as a length.
 fn wide(x: u8) -> usize
@@ -93,11 +60,11 @@ fn bad_size(p: Parameters, auxiliary: &[u8]) -> bool
 }
 
 // The clear lengths of `count` entries that begin at a place.
-fn clear_lengths(first: usize, count: usize, auxiliary: &[u8]) -> [u16; LIMIT]
+fn clear_lengths(first: usize, count: usize, auxiliary: &[u8]) -> [u16; SubsampleMap::LIMIT]
     requires { ⌜ (count ≤ spec.limit) × (first ≤ 512) ⌝ }
     ensures { λ r. ⌜ r ≡ filled spec.limit (listOf count (λ i. number 2 (now (auxiliary .entry)) (first + 6 * i))) ⌝ }
 {
-    let mut out = [0u16; LIMIT];
+    let mut out = [0u16; SubsampleMap::LIMIT];
     let mut i = 0;
     while i < count {
         out[i] = octets::be16(auxiliary, first + 6 * i);
@@ -106,11 +73,11 @@ fn clear_lengths(first: usize, count: usize, auxiliary: &[u8]) -> [u16; LIMIT]
     out
 }
 
-fn protected_lengths(first: usize, count: usize, auxiliary: &[u8]) -> [u32; LIMIT]
+fn protected_lengths(first: usize, count: usize, auxiliary: &[u8]) -> [u32; SubsampleMap::LIMIT]
     requires { ⌜ (count ≤ spec.limit) × (first ≤ 512) ⌝ }
     ensures { λ r. ⌜ r ≡ filled spec.limit (listOf count (λ i. number 4 (now (auxiliary .entry)) (first + 6 * i))) ⌝ }
 {
-    let mut out = [0u32; LIMIT];
+    let mut out = [0u32; SubsampleMap::LIMIT];
     let mut i = 0;
     while i < count {
         out[i] = octets::be32(auxiliary, first + 6 * i);
@@ -132,139 +99,11 @@ fn read_map(p: Parameters, count: usize, auxiliary: &[u8]) -> SubsampleMap
     }
 }
 
-// Whether entry i is 0 and 0.
-fn empty_entry(map: SubsampleMap, i: usize) -> bool
-    requires { ⌜ i < spec.limit ⌝ }
-    ensures { λ r. ⌜ r ≡ spec.emptyEntry map i ⌝ }
-{
-    let clear = map.clear;
-    let protected = map.protected;
-    clear[i] == 0 && protected[i] == 0
-}
-
-// Whether the protected length of entry i isn't a multiple of 16.
-fn ragged_entry(map: SubsampleMap, i: usize) -> bool
-    requires { ⌜ i < spec.limit ⌝ }
-    ensures { λ r. ⌜ r ≡ spec.raggedEntry map i ⌝ }
-{
-    let protected = map.protected;
-    protected[i] % 16 != 0
-}
-
-// Both lengths of entry i together.
-fn entry_length(map: SubsampleMap, i: usize) -> usize
-    requires { ⌜ i < spec.limit ⌝ }
-    ensures { λ r. ⌜ (r ≡ spec.entryLength map i) × (r < 8589934592) ⌝ }
-{
-    let clear = map.clear;
-    let protected = map.protected;
-    clear[i] as usize + protected[i] as usize
-}
-
-fn some_empty(map: SubsampleMap) -> bool
-    requires { ⌜ map .count ≤ spec.limit ⌝ }
-    ensures { λ r. ⌜ r ≡ spec.some (spec.emptyEntry map) (map .count) ⌝ }
-{
-    let count = map.count;
-    let mut i = 0;
-    while i < count {
-        if empty_entry(map, i) {
-            return true;
-        }
-        i += 1;
-    }
-    false
-}
-
-fn some_ragged(map: SubsampleMap) -> bool
-    requires { ⌜ map .count ≤ spec.limit ⌝ }
-    ensures { λ r. ⌜ r ≡ spec.some (spec.raggedEntry map) (map .count) ⌝ }
-{
-    let count = map.count;
-    let mut i = 0;
-    while i < count {
-        if ragged_entry(map, i) {
-            return true;
-        }
-        i += 1;
-    }
-    false
-}
-
-// The lengths of all entries together.
-fn total(map: SubsampleMap) -> usize
-    requires { ⌜ map .count ≤ spec.limit ⌝ }
-    ensures { λ r. ⌜ r ≡ spec.sum (spec.entryLength map) (map .count) ⌝ }
-{
-    let count = map.count;
-    let mut all = 0;
-    let mut i = 0;
-    while i < count {
-        all += entry_length(map, i);
-        i += 1;
-    }
-    all
-}
-
-// 10: an entry 0 and 0 in a sample that isn't empty.
-fn bad_entry(map: SubsampleMap, length: usize) -> bool
-    requires { ⌜ map .count ≤ spec.limit ⌝ }
-    ensures { λ r. ⌜ r ≡ not (eqb «length» 0) && spec.some (spec.emptyEntry map) (map .count) ⌝ }
-{
-    if length == 0 {
-        return false;
-    }
-    some_empty(map)
-}
-
-// 11: lengths that don't add up.
-fn bad_sum(map: SubsampleMap, length: usize) -> bool
-    requires { ⌜ map .count ≤ spec.limit ⌝ }
-    ensures { λ r. ⌜ r ≡ ltb 0 (map .count) && not (eqb (spec.sum (spec.entryLength map) (map .count)) «length») ⌝ }
-{
-    let count = map.count;
-    if count == 0 {
-        return false;
-    }
-    total(map) != length
-}
-
-// 12: a remainder in cbc1.
-fn bad_remainder(code: [u8; 4], map: SubsampleMap) -> bool
-    requires { ⌜ map .count ≤ spec.limit ⌝ }
-    ensures { λ r. ⌜ r ≡ same code cbc1 && spec.some (spec.raggedEntry map) (map .count) ⌝ }
-{
-    if octets::same(&code, b"cbc1") {
-        return some_ragged(map);
-    }
-    false
-}
-
-// 9 to 12: the number of a map under a scheme code, for a sample of some length.
-pub fn check_map(code: [u8; 4], map: SubsampleMap, length: usize) -> u8
-    ensures { λ r. ⌜ r ≡ answer (spec.mapRows code map «length») ⌝ }
-{
-    let count = map.count;
-    if LIMIT < count {
-        return refusal::ENTRIES;
-    }
-    if bad_entry(map, length) {
-        return refusal::EMPTY_ENTRY;
-    }
-    if bad_sum(map, length) {
-        return refusal::SUM;
-    }
-    if bad_remainder(code, map) {
-        return refusal::REMAINDER;
-    }
-    track::refusal::DONE
-}
-
-fn refused(number: u8) -> AuxiliaryRead
-    ensures { λ r. ⌜ r ≡ record { number = number; map = spec.emptyMap; iv = record { 0 = zeros } } ⌝ }
+fn refused(answer: u8) -> AuxiliaryRead
+    ensures { λ r. ⌜ r ≡ record { answer = answer; map = spec.emptyMap; iv = record { 0 = zeros } } ⌝ }
 {
     AuxiliaryRead {
-        number,
+        answer,
         map: SubsampleMap::empty(),
         iv: StartVector::new([0; 16]),
     }
@@ -284,8 +123,8 @@ fn read_iv(p: Parameters, auxiliary: &[u8]) -> [u8; 16]
 }
 
 // Reads auxiliary data under given parameters: 7 to 12.
-pub fn read_under(parameters: Parameters, length: usize, auxiliary: &[u8]) -> AuxiliaryRead
-    ensures { λ r. ⌜ r ≡ spec.readUnder parameters «length» (now (auxiliary .entry)) ⌝ }
+pub fn read_under(parameters: Parameters, auxiliary: &[u8], length: usize) -> AuxiliaryRead
+    ensures { λ r. ⌜ r ≡ spec.readUnder parameters (now (auxiliary .entry)) «length» ⌝ }
 {
     if SubsampleMap::LONGEST_SAMPLE < length {
         return refused(refusal::LENGTH);
@@ -294,30 +133,30 @@ pub fn read_under(parameters: Parameters, length: usize, auxiliary: &[u8]) -> Au
         return refused(refusal::SIZE);
     }
     let count = entry_count(parameters, auxiliary);
-    if LIMIT < count {
+    if SubsampleMap::LIMIT < count {
         return refused(refusal::ENTRIES);
     }
     let map = read_map(parameters, count, auxiliary);
     let code = parameters.code;
-    let number = check_map(code, map, length);
-    if number != track::refusal::DONE {
-        return refused(number);
+    let answer = check_map(code, map, length);
+    if answer != DONE {
+        return refused(answer);
     }
     AuxiliaryRead {
-        number,
+        answer,
         map,
         iv: StartVector::new(read_iv(parameters, auxiliary)),
     }
 }
 
 // Reads auxiliary data under a scheme code and a track box: 1 to 4, then 7 to 12.
-pub fn read(code: &[u8], track_box: &[u8], length: usize, auxiliary: &[u8]) -> AuxiliaryRead
-    ensures { λ r. ⌜ r ≡ spec.readAuxiliary (now (code .entry)) (now («track_box» .entry)) «length» (now (auxiliary .entry)) ⌝ }
+pub fn read(code: &[u8], track_box: &[u8], auxiliary: &[u8], length: usize) -> AuxiliaryRead
+    ensures { λ r. ⌜ r ≡ spec.readAuxiliary (now (code .entry)) (now («track_box» .entry)) (now (auxiliary .entry)) «length» ⌝ }
 {
     let track = track::read(code, track_box);
-    if track.number != track::refusal::DONE {
-        return refused(track.number);
+    if track.answer != DONE {
+        return refused(track.answer);
     }
     let parameters = track.parameters;
-    read_under(parameters, length, auxiliary)
+    read_under(parameters, auxiliary, length)
 }

@@ -1,5 +1,6 @@
--- The writer's answer: that of its parameters, and then 17.
+-- The rows of the reader and of the writer; the writer's answer is that of its parameters, and then 17.
 use mathlib.Core.Bool.{true}
+use mathlib.Core.List.{List}
 use mathlib.Core.Path.{_≡_}
 use Prim.Native.Nat.{ℕ, _≤_, _<_}
 use native.Mathlib.Omega.{arith}
@@ -8,7 +9,11 @@ use borrow.Author.Tests.{not-false}
 use Rattle.octets.specs.Answers.{answer}
 use Rattle.octets.proofs.Answers.{Refusals, none, more, done-head, done-tail, room-refused, room-short, room-enough, size-fits}
 use Rattle.track_spec.specs.declared.Parameters.{Parameters}
-use Rattle.track_spec.specs.Track.{known, allowed, boxLength, parameterRows, writeRows, writeBox}
+use Rattle.track_spec.specs.Track.{known, allowed, boxLength, readRows, parameterRows, writeRows, writeBox}
+
+pub read-refusals : (code box : List ℕ) → Refusals (readRows code box)
+unfolding readRows
+read-refusals code box = more (lit< tt) (more (lit< tt) (more (lit< tt) (more (lit< tt) none)))
 
 module _ (p : Parameters) where
   pub parameter-refusals : Refusals (parameterRows p)

@@ -1,7 +1,7 @@
 use mathlib.Core.Path.{sym, _∙_}
 use Prim.Native.Nat.{_+_}
 use borrow.Author.Tests.{le-leb, lt-leb, leb-true, ne-eqb, eq-eqb, not-true, not-false}
-use Rattle.subsample.specs.Auxiliary.{longest}
+use Rattle.subsample_spec.specs.Auxiliary.{longest}
 use Rattle.scheme.proofs.Fitting.{fits-is}
 use borrow.Author.Needs.{needs}
 use native.Mathlib.Omega.{arith}

@@ -1,6 +1,6 @@
 use mathlib.Core.Path.{sym, _∙_}
 use borrow.Author.Tests.{eq-eqb, ne-eqb, le-leb, lt-leb, not-true, not-false}
-use Rattle.subsample.specs.Auxiliary.{longest}
+use Rattle.subsample_spec.specs.Auxiliary.{longest}
 use Rattle.stream.specs.Stream.{sound}
 use borrow.Author.Needs.{needs}
 use Rattle.stream.proofs.sound.Statement.{statement}

@@ -1,6 +1,6 @@
 use Prim.Native.Nat.{_+_, _-_, _*_}
 use Rattle.octets.specs.Bytes.{number}
-use Rattle.subsample.proofs.Counting.{Taken, taken-none, taken-next, taken-all}
+use Rattle.subsample_spec.proofs.Counting.{Taken, taken-none, taken-next, taken-all}
 use borrow.Author.Needs.{needs}
 use Rattle.subsample.proofs.clear_lengths.Statement.{statement}
 use Rattle.subsample.proofs.clear_lengths.Tie as tie

@@ -1,5 +1,5 @@
 use mathlib.Core.Path.{sym, _∙_}
-use Rattle.subsample.specs.Auxiliary.{entryCount}
+use Rattle.subsample_spec.specs.Auxiliary.{entryCount}
 use borrow.Author.Needs.{needs}
 use Rattle.subsample.proofs.entry_count.Statement.{statement}
 use Rattle.subsample.proofs.entry_count.Tie as tie

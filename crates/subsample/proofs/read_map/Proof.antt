@@ -1,4 +1,4 @@
-use Rattle.subsample.specs.Auxiliary.{mapRead}
+use Rattle.subsample_spec.specs.Auxiliary.{mapRead}
 use borrow.Author.Needs.{needs}
 use Rattle.subsample.proofs.read_map.Statement.{statement}
 use Rattle.subsample.proofs.read_map.Tie as tie

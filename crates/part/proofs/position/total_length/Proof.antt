@@ -2,7 +2,7 @@ use mathlib.Core.Path.{_≡_, sym}
 use native.Mathlib.Nat.{add-zero, zero-add}
 use lib.ListN.{length}
 use borrow.Author.Tests.{eq-eqb, ne-eqb}
-use Rattle.subsample.specs.Auxiliary.{limit}
+use Rattle.subsample_spec.specs.Auxiliary.{limit}
 use Rattle.scheme.specs.Layout.{total}
 use Rattle.scheme.specs.Part.{protectedEntries}
 use Rattle.scheme.proofs.SampleParts.{entries-limit}

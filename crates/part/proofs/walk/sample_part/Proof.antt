@@ -6,7 +6,7 @@ use mir.Syntax.{w16, w32}
 use lib.ListN.{length, getD, drop}
 use Rattle.octets.proofs.Fill.{fill-length}
 use Rattle.aes.specs.Block.{encipher, decipher}
-use Rattle.subsample.specs.Auxiliary.{limit}
+use Rattle.subsample_spec.specs.Auxiliary.{limit}
 use Rattle.scheme.specs.Layout.{entry, entries}
 use Rattle.scheme.proofs.SampleParts.{Walked, walk-start, walk-entry, walk-asks, walk-turned, walk-skipped, walk-end, entry-next}
 use borrow.Author.Needs.{needs}

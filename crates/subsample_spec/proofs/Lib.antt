@@ -1,3 +1,4 @@
 pub mod Counting
 pub mod Tables
+pub mod Reading
 pub mod Depends

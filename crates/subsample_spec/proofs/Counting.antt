@@ -11,7 +11,7 @@ use borrow.Author.Tests.{ltb-true, ltb-false}
 use Rattle.octets.specs.Bytes.{listOf, filled}
 use Rattle.octets.proofs.Bytes.{filled-short}
 use Rattle.octets.proofs.Fill.{Filled, fill-none, fill-next}
-use Rattle.subsample.specs.Auxiliary.{limit, some, sum}
+use Rattle.subsample_spec.specs.Auxiliary.{limit, some, sum}
 
 some-next : (f : ℕ → Bool) (n : ℕ) → some f (n + 1) ≡ (some f n || f n)
 unfolding some

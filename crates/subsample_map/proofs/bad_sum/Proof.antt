@@ -1,8 +1,8 @@
 use borrow.Author.Tests.{lt-ltb}
 use borrow.Author.Needs.{needs}
 use native.Mathlib.Omega.{arith}
-use Rattle.subsample.proofs.bad_sum.Statement.{statement}
-use Rattle.subsample.proofs.bad_sum.Tie as tie
+use Rattle.subsample_map.proofs.bad_sum.Statement.{statement}
+use Rattle.subsample_map.proofs.bad_sum.Tie as tie
 
 returns : tie.Need-returns
 returns c = rw (c .if1 .taken)

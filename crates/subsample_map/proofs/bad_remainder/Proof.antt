@@ -1,7 +1,7 @@
 use mathlib.Core.Path.{sym, _∙_}
 use borrow.Author.Needs.{needs}
-use Rattle.subsample.proofs.bad_remainder.Statement.{statement}
-use Rattle.subsample.proofs.bad_remainder.Tie as tie
+use Rattle.subsample_map.proofs.bad_remainder.Statement.{statement}
+use Rattle.subsample_map.proofs.bad_remainder.Tie as tie
 
 returns : tie.Need-returns
 returns c = rw (sym (c .before .before .same .ensures) ∙ c .before .if1 .taken, c .some-ragged .ensures)

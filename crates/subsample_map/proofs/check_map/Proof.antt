@@ -1,10 +1,10 @@
 use mathlib.Core.Path.{sym, _∙_}
 use borrow.Author.Tests.{lt-ltb, le-ltb}
 use Rattle.octets.specs.Answers.{answer}
-use Rattle.subsample.specs.Auxiliary.{mapRows}
+use Rattle.subsample_spec.specs.Auxiliary.{mapRows}
 use borrow.Author.Needs.{needs}
-use Rattle.subsample.proofs.check_map.Statement.{statement}
-use Rattle.subsample.proofs.check_map.Tie as tie
+use Rattle.subsample_map.proofs.check_map.Statement.{statement}
+use Rattle.subsample_map.proofs.check_map.Tie as tie
 
 returns : tie.Need-returns
 unfolding mapRows answer

@@ -1,21 +1,22 @@
--- What the numbers depend on, and that accepted lengths add up.
+-- What the answers depend on, and that accepted lengths add up.
 use mathlib.Core.Bool.{true, false}
-use mathlib.Core.List.{List, _∷_, _++_}
-use mathlib.Core.Path.{_≡_, refl, ap, ap₂, _∙_}
-use Prim.Native.Nat.{ℕ, zero, suc, _+_, _*_, _≤_, _<_}
+use mathlib.Core.List.{List, _++_}
+use mathlib.Core.Path.{_≡_, refl, ap, _∙_}
+use Prim.Native.Nat.{ℕ, _+_, _*_, _≤_, _<_}
 use native.Mathlib.Omega.{arith}
 use lib.Dec.{eqb, ltb}
 use lib.ListN.{length, getD}
 use borrow.Author.Tests.{eqb-true, eqb-false, lt-ltb, not-false}
 use Rattle.octets.specs.Answers.{answer}
 use Rattle.octets.specs.Bytes.{listOf, number}
+use Rattle.octets.proofs.Alike.{listOf-alike, number-alike}
 use Rattle.octets.proofs.Answers.{done-head, done-tail, join-alike}
+use Rattle.octets.proofs.Tests.{or-false-left, or-false-right}
 use Rattle.track_spec.specs.declared.Parameters.{Parameters}
-use Rattle.track_spec.specs.Track.{fields, readRows}
-use Rattle.track_spec.proofs.Codes.{or-false-left, or-false-right}
+use Rattle.track_spec.specs.Track.{fieldsFrom, fields, readRows}
+use Rattle.track_spec.proofs.Checking.{read-refusals}
 use Rattle.track_spec.proofs.Depends.{Alike, read-alike}
-use Rattle.subsample.specs.Auxiliary.{sum, entryLength, written, countWritten, badSize, entryCount, mapRead, mapRows, auxiliaryRows}
-use Rattle.subsample.proofs.Tables.{read-refusals}
+use Rattle.subsample_spec.specs.Auxiliary.{sum, entryLength, written, countWritten, badSize, entryCount, mapRead, mapRows, auxiliaryRows}
 
 -- Parameters that differ at most in version, pattern, KID and constant IV, and data that differ at most in the IV's bytes.
 pub record AlikeData (p q : Parameters) (a b : List ℕ) : Type 0 where
@@ -25,20 +26,12 @@ pub record AlikeData (p q : Parameters) (a b : List ℕ) : Type 0 where
   pub size : length a ≡ length b
   pub after : (i : ℕ) → p .«iv_size» ≤ i → getD a i 0 ≡ getD b i 0
 
-pub listOf-alike : (n : ℕ) (f g : ℕ → ℕ) → ((i : ℕ) → i < n → f i ≡ g i) → listOf n f ≡ listOf n g
-listOf-alike zero f g h = refl
-listOf-alike (suc n) f g h =
-    ap₂ (λ (x : ℕ) (l : List ℕ). x ∷ l) (h 0 (omega arith))
-    (listOf-alike n (λ i. f (suc i)) (λ i. g (suc i)) (λ i l. h (suc i) (omega arith)))
-
 module _ {p q : Parameters} {a b : List ℕ} (s : AlikeData p q a b) where
-  number-alike : (n at : ℕ) → p .«iv_size» ≤ at → number n a at ≡ number n b at
-  unfolding number
-  number-alike zero at h = refl
-  number-alike (suc n) at h = ap₂ (λ (x y : ℕ). x * 256 + y) (number-alike n at h) (s .after (at + n) (omega arith))
+  after-alike : (n at : ℕ) → p .«iv_size» ≤ at → number n a at ≡ number n b at
+  after-alike n at h = number-alike a b n at (λ i l m. s .after i (omega arith))
 
   count-alike : number 2 a (p .«iv_size») ≡ number 2 b (p .«iv_size»)
-  count-alike = number-alike 2 (p .«iv_size») (omega arith)
+  count-alike = after-alike 2 (p .«iv_size») (omega arith)
 
   size-alike : badSize p a ≡ badSize q b
   unfolding badSize
@@ -56,21 +49,21 @@ module _ {p q : Parameters} {a b : List ℕ} (s : AlikeData p q a b) where
       ap (λ (n : ℕ). listOf n (λ i. number w a (p .«iv_size» + k + 6 * i))) entries-alike
       ∙ listOf-alike (entryCount q b) (λ i. number w a (p .«iv_size» + k + 6 * i)) (λ i. number w b (q .«iv_size» + k + 6 * i))
       (λ i l.
-      number-alike w (p .«iv_size» + k + 6 * i) (omega arith) ∙ ap (λ (v : ℕ). number w b (v + k + 6 * i)) (s .iv-size))
+      after-alike w (p .«iv_size» + k + 6 * i) (omega arith) ∙ ap (λ (v : ℕ). number w b (v + k + 6 * i)) (s .iv-size))
 
   pub map-alike : mapRead p a ≡ mapRead q b
   unfolding mapRead
   map-alike = rw (lengths-alike 2 2, lengths-alike 4 4, entries-alike)
 
-  -- the number does not depend on IV bytes, under given parameters
-  pub auxiliary-alike : (n : ℕ) → answer (auxiliaryRows p n a) ≡ answer (auxiliaryRows q n b)
+  -- the answer does not depend on IV bytes, under given parameters
+  pub auxiliary-alike : (n : ℕ) → answer (auxiliaryRows p a n) ≡ answer (auxiliaryRows q b n)
   unfolding auxiliaryRows answer
   auxiliary-alike n = rw (size-alike, map-alike, s .code)
 
 module _ (code : List ℕ) {x y : List ℕ} (s : Alike x y) (n : ℕ) (a b : List ℕ) (l : length a ≡ length b)
     (h : (i : ℕ) → getD x 15 0 ≤ i → getD a i 0 ≡ getD b i 0) where
   pub fields-alike : AlikeData (fields code x) (fields code y) a b
-  unfolding fields
+  unfolding fields fieldsFrom
   fields-alike =
       record {
         code = refl;
@@ -80,12 +73,12 @@ module _ (code : List ℕ) {x y : List ℕ} (s : Alike x y) (n : ℕ) (a b : Lis
         after = h;
       }
 
-  -- the public reader's number depends neither on the KID nor on IV bytes
-  pub reader-alike : answer (readRows code x ++ auxiliaryRows (fields code x) n a)
-      ≡ answer (readRows code y ++ auxiliaryRows (fields code y) n b)
+  -- the public reader's answer depends neither on the KID nor on IV bytes
+  pub reader-alike : answer (readRows code x ++ auxiliaryRows (fields code x) a n)
+      ≡ answer (readRows code y ++ auxiliaryRows (fields code y) b n)
   reader-alike =
-      join-alike (read-refusals code x) (read-refusals code y) (auxiliaryRows (fields code x) n a)
-      (auxiliaryRows (fields code y) n b) (read-alike s code) (auxiliary-alike fields-alike n)
+      join-alike (read-refusals code x) (read-refusals code y) (auxiliaryRows (fields code x) a n)
+      (auxiliaryRows (fields code y) b n) (read-alike s code) (auxiliary-alike fields-alike n)
 
 -- where entries are written and accepted their lengths add up to the sample's
 module _ (p : Parameters) (aux : List ℕ) (w : written p aux ≡ true) where
@@ -98,7 +91,7 @@ module _ (p : Parameters) (aux : List ℕ) (w : written p aux ≡ true) where
       zero-below : (c : ℕ) → (c ≡ 0 → ⊥) → 0 < c
       zero-below c z = omega arith
 
-  pub lengths-add-up : (n : ℕ) → answer (auxiliaryRows p n aux) ≡ 0
+  pub lengths-add-up : (n : ℕ) → answer (auxiliaryRows p aux n) ≡ 0
       → sum (entryLength (mapRead p aux)) (mapRead p aux .count) ≡ n
   unfolding auxiliaryRows mapRows
   lengths-add-up n h =

@@ -8,8 +8,8 @@ use Rattle.octets.specs.Answers.{Row, row, answer}
 use Rattle.octets.specs.Bytes.{listOf, same, number, filled}
 use Rattle.track_spec.specs.Track.{cbc1, zeros, hasConstant, fields, readRows}
 use Rattle.track_spec.specs.declared.Parameters.{Parameters}
-use Rattle.subsample.specs.declared.SubsampleMap.{SubsampleMap}
-use Rattle.subsample.specs.declared.AuxiliaryRead.{AuxiliaryRead}
+use Rattle.subsample_spec.specs.declared.SubsampleMap.{SubsampleMap}
+use Rattle.subsample_spec.specs.declared.AuxiliaryRead.{AuxiliaryRead}
 
 -- The most entries that a map holds.
 abbrev pub limit : ℕ
@@ -91,22 +91,22 @@ unfoldable pub ivRead : Parameters → List ℕ → List ℕ
 ivRead p aux = cond (hasConstant (p .protected) (p .«iv_size»)) (p .«constant_iv» .0) (filled 16 (take (p .«iv_size») aux))
 
 -- 7 to 12, for a sample of n bytes.
-unfoldable pub auxiliaryRows : Parameters → ℕ → List ℕ → List Row
-auxiliaryRows p n aux = row 7 (ltb longest n) ∷ row 8 (badSize p aux) ∷ mapRows (p .code) (mapRead p aux) n
+unfoldable pub auxiliaryRows : Parameters → List ℕ → ℕ → List Row
+auxiliaryRows p aux n = row 7 (ltb longest n) ∷ row 8 (badSize p aux) ∷ mapRows (p .code) (mapRead p aux) n
 
 -- What a table and the data make: on a refusal map and IV are those of an empty unprotected track.
 unfoldable pub handedOut : ℕ → Parameters → List ℕ → AuxiliaryRead
-handedOut number p aux =
+handedOut answer p aux =
     record {
-      number = number;
-      map = cond (eqb number 0) (mapRead p aux) emptyMap;
-      iv = record { 0 = cond (eqb number 0) (ivRead p aux) zeros };
+      answer = answer;
+      map = cond (eqb answer 0) (mapRead p aux) emptyMap;
+      iv = record { 0 = cond (eqb answer 0) (ivRead p aux) zeros };
     }
 
-unfoldable pub readUnder : Parameters → ℕ → List ℕ → AuxiliaryRead
-readUnder p n aux = handedOut (answer (auxiliaryRows p n aux)) p aux
+unfoldable pub readUnder : Parameters → List ℕ → ℕ → AuxiliaryRead
+readUnder p aux n = handedOut (answer (auxiliaryRows p aux n)) p aux
 
 -- The public reader: 1 to 4 of the box, then 7 to 12.
-unfoldable pub readAuxiliary : List ℕ → List ℕ → ℕ → List ℕ → AuxiliaryRead
-readAuxiliary code box n aux =
-    handedOut (answer (readRows code box ++ auxiliaryRows (fields code box) n aux)) (fields code box) aux
+unfoldable pub readAuxiliary : List ℕ → List ℕ → List ℕ → ℕ → AuxiliaryRead
+readAuxiliary code box aux n =
+    handedOut (answer (readRows code box ++ auxiliaryRows (fields code box) aux n)) (fields code box) aux

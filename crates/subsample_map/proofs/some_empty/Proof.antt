@@ -1,12 +1,12 @@
 use mathlib.Core.Bool.{false}
 use mathlib.Core.Path.{_≡_, refl}
 use Prim.Native.Nat.{_≤_, _-_}
-use Rattle.subsample.specs.Auxiliary.{some, emptyEntry}
-use Rattle.subsample.proofs.Counting.{found, none-yet, none-at-all}
+use Rattle.subsample_spec.specs.Auxiliary.{some, emptyEntry}
+use Rattle.subsample_spec.proofs.Counting.{found, none-yet, none-at-all}
 use borrow.Author.Needs.{needs}
 use native.Mathlib.Omega.{arith}
-use Rattle.subsample.proofs.some_empty.Statement.{statement}
-use Rattle.subsample.proofs.some_empty.Tie as tie
+use Rattle.subsample_map.proofs.some_empty.Statement.{statement}
+use Rattle.subsample_map.proofs.some_empty.Tie as tie
 
 abbrev Inv-loop : tie.InvT-loop
 Inv-loop map count i₀ i = (i ≤ count) × (some (emptyEntry map) i ≡ false)

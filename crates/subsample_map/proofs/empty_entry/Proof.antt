@@ -1,7 +1,7 @@
 use borrow.Author.Tests.{eq-eqb, ne-eqb}
 use borrow.Author.Needs.{needs}
-use Rattle.subsample.proofs.empty_entry.Statement.{statement}
-use Rattle.subsample.proofs.empty_entry.Tie as tie
+use Rattle.subsample_map.proofs.empty_entry.Statement.{statement}
+use Rattle.subsample_map.proofs.empty_entry.Tie as tie
 
 returns : tie.Need-returns
 returns c = rw (eq-eqb _ _ (c .if1 .taken))

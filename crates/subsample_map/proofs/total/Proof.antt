@@ -1,11 +1,11 @@
 use mathlib.Core.Path.{_≡_, refl, sym}
 use Prim.Native.Nat.{_≤_, _-_, _*_}
-use Rattle.subsample.specs.Auxiliary.{sum, entryLength}
-use Rattle.subsample.proofs.Counting.{sum-next}
+use Rattle.subsample_spec.specs.Auxiliary.{sum, entryLength}
+use Rattle.subsample_spec.proofs.Counting.{sum-next}
 use borrow.Author.Needs.{needs}
 use native.Mathlib.Omega.{arith}
-use Rattle.subsample.proofs.total.Statement.{statement}
-use Rattle.subsample.proofs.total.Tie as tie
+use Rattle.subsample_map.proofs.total.Statement.{statement}
+use Rattle.subsample_map.proofs.total.Tie as tie
 
 abbrev Inv-loop : tie.InvT-loop
 Inv-loop map count all₀ i₀ all i = (i ≤ count) × (all ≡ sum (entryLength map) i) × (all ≤ i * 8589934592)

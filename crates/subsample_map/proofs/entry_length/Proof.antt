@@ -4,8 +4,8 @@ use mir.Syntax.{w16, w32}
 use mir.Val.{Fits}
 use borrow.Author.Needs.{needs}
 use native.Mathlib.Omega.{arith}
-use Rattle.subsample.proofs.entry_length.Statement.{statement}
-use Rattle.subsample.proofs.entry_length.Tie as tie
+use Rattle.subsample_map.proofs.entry_length.Statement.{statement}
+use Rattle.subsample_map.proofs.entry_length.Tie as tie
 
 cast-result : tie.Need-cast-result
 cast-result c =
