@@ -11,17 +11,19 @@ use lib.ListN.{length, getD, take, drop, replicate, length-append, length-replic
 use lib.Seq.{getD-drop, drop-drop, take-at, drop-at, length-take-le}
 use Rattle.octets.specs.Xor.{_⊕_}
 use borrow.Author.Tests.{eqb-true, eqb-false, eq-eqb, ne-eqb, lt-ltb, le-ltb}
+use Rattle.scheme.specs.declared.Pattern.{Pattern}
 use Rattle.scheme.specs.declared.Scheme.{Scheme}
 use Rattle.scheme.specs.declared.Scheme.the-variants.{Cenc, Cbc1, Cens, Cbcs}
-use Rattle.scheme.specs.Layout.{Entry, total, inWholeBlock, inCryptRun, tabulate, isCiphered, rangeMarks, marks, mask, restarts, restartMask, chosen, replaced}
+use Rattle.scheme.specs.Layout.{period, Entry, total, inWholeBlock, inCryptRun, tabulate, isCiphered, rangeMarks, marks, mask, restarts, restartMask, chosen, replaced, count}
 use Rattle.modes_spec.specs.declared.Direction.{Direction}
 use Rattle.modes_spec.specs.Modes.{Cipher, counterAt, streamByte, ctr, blockOut, blockChain, cbcBlocks, cbc}
 use Rattle.scheme.specs.WholeSample.{over, overEach, whole}
 use Rattle.octets.specs.Bytes.{Bytes}
 use Rattle.modes_spec.proofs.Counter.{steps, no-step}
 use Rattle.scheme.proofs.Pieces.{cond-law, count-marked, count-unmarked, Sized, length-blockOut, feed-append, feed-position, heldAfter, Added, feed-adds}
-use Rattle.scheme.specs.Layout.{count}
-use Rattle.scheme.specs.Machine.{free, State, Stepped, Mode, Counter, Chain, modeOf, chainAt, plain, counted, chained, ciphered, step, feed, feedSample}
+use Rattle.scheme.specs.declared.Mode.{Mode}
+use Rattle.scheme.specs.declared.Mode.the-variants.{Counter, Chain}
+use Rattle.scheme.specs.Machine.{free, State, Stepped, modeOf, chainAt, plain, counted, chained, cipheredStep, step, feed, feedSample}
 
 -- ---- what stands at a place of a list of marks
 
@@ -51,7 +53,7 @@ module _ (E D : Cipher) (d : Direction) (iv : List ℕ) (M F : List Bool) (long 
       → count (take p M) ≡ r
       → feed E D d Counter iv M F (record { position = p; block = counterAt iv (r / 16); held = h }) xs .released
       ≡ over (ctr E iv r) ms xs
-  unfolding feed step plain ciphered counted over chosen replaced ctr streamByte count
+  unfolding feed step plain cipheredStep counted over chosen replaced ctr streamByte count
   counter-feed [] [] p h r at l er = refl
   counter-feed [] (m ∷ ms) p h r at l er = absurd (omega arith)
   counter-feed (x ∷ xs) [] p h r at l er = absurd (omega arith)
@@ -118,7 +120,7 @@ module _ (E D : Cipher) (sE : Sized E) (sD : Sized D) (d : Direction) (iv : List
         state = record { position = q; block = blockChain E D d (cond a iv c) (h ++ ys); held = [] };
         released = blockOut E D d (cond a iv c) (h ++ ys);
       }
-  unfolding feed step ciphered chained chainAt
+  unfolding feed step cipheredStep chained chainAt
   block-feed [] p q c h a ms fs e l eq eM eF = absurd (omega arith)
   block-feed (y ∷ []) p q c h a ms fs e l eq eM eF =
       rw (drop-head M p true ms eM, drop-head F p a fs eF, eq-eqb (length h) 15 (omega arith))
@@ -251,21 +253,21 @@ module _ (G H : ℕ → Bool) where
           (block (blockwise-later q 1 (n % 16) (q * 16 + n % 16) refl (omega arith) (rw r g) later))
 
 -- the marks of a range of cbc1 and of one of cbcs
-module _ (crypt skip : ℕ) where
-  blockwise-cbc1 : (n : ℕ) → Blockwise false (rangeMarks (isCiphered Cbc1 crypt skip) n) (rangeMarks (restarts Cbc1) n)
+module _ (pattern : Pattern) where
+  blockwise-cbc1 : (n : ℕ) → Blockwise false (rangeMarks (isCiphered Cbc1 pattern) n) (rangeMarks (restarts Cbc1) n)
   unfolding rangeMarks isCiphered inWholeBlock restarts
   blockwise-cbc1 n =
       blockwise-later (λ (k : ℕ). ltb k (n / 16)) (λ (k : ℕ). false) (n / 16) 0 (n % 16) n (omega arith) (omega arith)
       (le-ltb (0 + n / 16) (n / 16) (omega arith)) (λ j u. refl)
 
-  blockwise-cbcs : isCiphered Cbcs crypt skip 16 0 ≡ true → (n : ℕ)
-      → Blockwise true (rangeMarks (isCiphered Cbcs crypt skip) n) (rangeMarks (restarts Cbcs) n)
+  blockwise-cbcs : isCiphered Cbcs pattern 16 0 ≡ true → (n : ℕ)
+      → Blockwise true (rangeMarks (isCiphered Cbcs pattern) n) (rangeMarks (restarts Cbcs) n)
   unfolding rangeMarks isCiphered inWholeBlock inCryptRun restarts
   blockwise-cbcs c n =
-      blockwise-range (λ (k : ℕ). ltb k (n / 16) && ltb (k % (crypt + skip)) crypt) (λ (k : ℕ). eqb k 0) n
+      blockwise-range (λ (k : ℕ). ltb k (n / 16) && ltb (k % (period pattern)) (pattern .crypt)) (λ (k : ℕ). eqb k 0) n
       (rw (le-ltb (n / 16) (n / 16) (omega arith))) (λ u. rw (lt-ltb 0 (n / 16) u, c)) refl (λ j u. ne-eqb j 0 (omega arith))
 
-  blockwise-sample : (es : List Entry) → Blockwise false (mask Cbc1 crypt skip es) (restartMask Cbc1 es)
+  blockwise-sample : (es : List Entry) → Blockwise false (mask Cbc1 pattern es) (restartMask Cbc1 es)
   unfolding mask restartMask marks
   blockwise-sample [] = done
   blockwise-sample (e ∷ es) = clears (e .clear) false (blockwise-append (blockwise-cbc1 (e .protected)) (blockwise-sample es))
@@ -291,41 +293,41 @@ unfolding marks total
 length-marks f [] = refl
 length-marks f (e ∷ es) = simp (length-append, length-replicate, length-range, length-marks f es)
 
-module _ (E D : Cipher) (sE : Sized E) (sD : Sized D) (d : Direction) (iv : List ℕ) (crypt skip : ℕ) where
+module _ (E D : Cipher) (sE : Sized E) (sD : Sized D) (d : Direction) (iv : List ℕ) (pattern : Pattern) where
   -- cbc1: the whole mask at once
-  cbc1-feed : (es : List Entry) (c xs : List ℕ) → length xs ≡ length (mask Cbc1 crypt skip es)
-      → feed E D d Chain iv (mask Cbc1 crypt skip es) (restartMask Cbc1 es) (free 0 c) xs .released
-      ≡ over (cbc E D d c) (mask Cbc1 crypt skip es) xs
+  cbc1-feed : (es : List Entry) (c xs : List ℕ) → length xs ≡ length (mask Cbc1 pattern es)
+      → feed E D d Chain iv (mask Cbc1 pattern es) (restartMask Cbc1 es) (free 0 c) xs .released
+      ≡ over (cbc E D d c) (mask Cbc1 pattern es) xs
   unfolding feed
   cbc1-feed es c xs l =
       simp append-nil at
-      (blockwise-feed E D sE sD d iv (mask Cbc1 crypt skip es) (restartMask Cbc1 es) (blockwise-sample crypt skip es) xs [] [] 0
-      (0 + length (mask Cbc1 crypt skip es)) c [] [] l refl
+      (blockwise-feed E D sE sD d iv (mask Cbc1 pattern es) (restartMask Cbc1 es) (blockwise-sample pattern es) xs [] [] 0
+      (0 + length (mask Cbc1 pattern es)) c [] [] l refl
       (sym (append-nil _)) (sym (append-nil _)) (λ c′. refl))
 
   -- cbcs: range by range
-  module _ (M F : List Bool) (some : isCiphered Cbcs crypt skip 16 0 ≡ true) where
+  module _ (M F : List Bool) (some : isCiphered Cbcs pattern 16 0 ≡ true) where
     entry-feed : (a b : ℕ) (cs bs zs R : List ℕ) (p : ℕ) (c : List ℕ) (ns gs : List Bool) → length cs ≡ a → length bs ≡ b
-        → drop p M ≡ replicate a false ++ (rangeMarks (isCiphered Cbcs crypt skip) b ++ ns)
+        → drop p M ≡ replicate a false ++ (rangeMarks (isCiphered Cbcs pattern) b ++ ns)
         → drop p F ≡ replicate a false ++ (rangeMarks (restarts Cbcs) b ++ gs)
         → ((c′ : List ℕ) → feed E D d Chain iv M F (free (p + (a + b)) c′) zs .released ≡ R)
         → feed E D d Chain iv M F (free p c) (cs ++ (bs ++ zs)) .released
-        ≡ cs ++ (over (cbc E D d iv) (rangeMarks (isCiphered Cbcs crypt skip) b) bs ++ R)
+        ≡ cs ++ (over (cbc E D d iv) (rangeMarks (isCiphered Cbcs pattern) b) bs ++ R)
     entry-feed a b cs bs zs R p c ns gs la lb eM eF k =
         rw (rw la at (over-unmarked (cbc E D d c) cs)) at
         (blockwise-feed E D sE sD d iv M F (all-clear a) cs (bs ++ zs)
-        (over (cbc E D d iv) (rangeMarks (isCiphered Cbcs crypt skip) b) bs ++ R) p (p + a) c
-        (rangeMarks (isCiphered Cbcs crypt skip) b ++ ns) (rangeMarks (restarts Cbcs) b ++ gs)
+        (over (cbc E D d iv) (rangeMarks (isCiphered Cbcs pattern) b) bs ++ R) p (p + a) c
+        (rangeMarks (isCiphered Cbcs pattern) b ++ ns) (rangeMarks (restarts Cbcs) b ++ gs)
         (la ∙ sym (length-replicate a false)) (simp length-replicate) eM eF
         (λ c′.
-        blockwise-feed E D sE sD d iv M F (blockwise-cbcs crypt skip some b) bs zs R (p + a) (p + (a + b)) c′ ns gs
-        (lb ∙ sym (length-range (isCiphered Cbcs crypt skip) b))
+        blockwise-feed E D sE sD d iv M F (blockwise-cbcs pattern some b) bs zs R (p + a) (p + (a + b)) c′ ns gs
+        (lb ∙ sym (length-range (isCiphered Cbcs pattern) b))
         (simp length-range (omega arith)) (drop-part M p a (replicate a false) _ (length-replicate a false) eM)
         (drop-part F p a (replicate a false) _ (length-replicate a false) eF) k))
 
-    cbcs-feed : (es : List Entry) (xs : List ℕ) (p : ℕ) (c : List ℕ) → length xs ≡ total es → drop p M ≡ mask Cbcs crypt skip es
+    cbcs-feed : (es : List Entry) (xs : List ℕ) (p : ℕ) (c : List ℕ) → length xs ≡ total es → drop p M ≡ mask Cbcs pattern es
         → drop p F ≡ restartMask Cbcs es
-        → feed E D d Chain iv M F (free p c) xs .released ≡ overEach (cbc E D d iv) Cbcs crypt skip es xs
+        → feed E D d Chain iv M F (free p c) xs .released ≡ overEach (cbc E D d iv) Cbcs pattern es xs
     unfolding feed overEach mask restartMask marks total
     cbcs-feed [] [] p c l eM eF = refl
     cbcs-feed [] (x ∷ xs) p c l eM eF = absurd (omega arith)
@@ -336,11 +338,11 @@ module _ (E D : Cipher) (sE : Sized E) (sD : Sized D) (d : Direction) (iv : List
         rw (← (drop-drop b a xs), take-append-drop b (drop a xs)) (take-append-drop a xs) in
         rw s at
         (entry-feed a b (take a xs) (take b (drop a xs)) (drop (a + b) xs)
-        (overEach (cbc E D d iv) Cbcs crypt skip es (drop (a + b) xs)) p c (mask Cbcs crypt skip es) (restartMask Cbcs es)
+        (overEach (cbc E D d iv) Cbcs pattern es (drop (a + b) xs)) p c (mask Cbcs pattern es) (restartMask Cbcs es)
         (length-take-le a xs (omega arith)) (length-take-le b (drop a xs) (simp length-drop (omega arith))) eM eF
         (λ c′.
         cbcs-feed es (drop (a + b) xs) (p + (a + b)) c′ (simp length-drop (omega arith))
-        (drop-part M p (a + b) (replicate a false ++ rangeMarks (isCiphered Cbcs crypt skip) b) (mask Cbcs crypt skip es)
+        (drop-part M p (a + b) (replicate a false ++ rangeMarks (isCiphered Cbcs pattern) b) (mask Cbcs pattern es)
         (simp (length-append, length-replicate, length-range)) (simp append-assoc eM))
         (drop-part F p (a + b) (replicate a false ++ rangeMarks (restarts Cbcs) b) (restartMask Cbcs es)
         (simp (length-append, length-replicate, length-range)) (simp append-assoc eF))))
@@ -358,10 +360,10 @@ abbrev pub start : List ℕ → State
 start iv = free 0 iv
 
 module _ (E D : Cipher) (sE : Sized E) (sD : Sized D) (d : Direction) (iv : List ℕ) (bytes : Bytes 16 iv)
-    (crypt skip : ℕ) (es : List Entry) where
-  length-mask : (s : Scheme) → length (mask s crypt skip es) ≡ total es
+    (pattern : Pattern) (es : List Entry) where
+  length-mask : (s : Scheme) → length (mask s pattern es) ≡ total es
   unfolding mask
-  length-mask s = length-marks (isCiphered s crypt skip) es
+  length-mask s = length-marks (isCiphered s pattern) es
 
   counter-sample : (M F : List Bool) (xs : List ℕ) → length xs ≡ length M
       → feed E D d Counter iv M F (start iv) xs .released ≡ over (ctr E iv 0) M xs
@@ -370,27 +372,27 @@ module _ (E D : Cipher) (sE : Sized E) (sD : Sized D) (d : Direction) (iv : List
       rw (no-step iv (bytes .size) (bytes .small)) at (counter-feed E D d iv M F
       (omega (arith, bytes .size)) xs M 0 [] 0 refl l refl)
 
-  pub machine-whole : (s : Scheme) → isCiphered s crypt skip 16 0 ≡ true → (xs : List ℕ) → length xs ≡ total es
-      → feedSample E D d s crypt skip iv es (start iv) xs .released ≡ whole E D iv crypt skip es d s xs
+  pub machine-whole : (s : Scheme) → isCiphered s pattern 16 0 ≡ true → (xs : List ℕ) → length xs ≡ total es
+      → feedSample E D d s pattern iv es (start iv) xs .released ≡ whole E D iv pattern es d s xs
   unfolding feedSample modeOf whole
-  machine-whole Cenc a xs l = counter-sample (mask Cenc crypt skip es) (restartMask Cenc es) xs (l ∙ sym (length-mask Cenc))
-  machine-whole Cbc1 a xs l = cbc1-feed E D sE sD d iv crypt skip es iv xs (l ∙ sym (length-mask Cbc1))
-  machine-whole Cens a xs l = counter-sample (mask Cens crypt skip es) (restartMask Cens es) xs (l ∙ sym (length-mask Cens))
+  machine-whole Cenc a xs l = counter-sample (mask Cenc pattern es) (restartMask Cenc es) xs (l ∙ sym (length-mask Cenc))
+  machine-whole Cbc1 a xs l = cbc1-feed E D sE sD d iv pattern es iv xs (l ∙ sym (length-mask Cbc1))
+  machine-whole Cens a xs l = counter-sample (mask Cens pattern es) (restartMask Cens es) xs (l ∙ sym (length-mask Cens))
   machine-whole Cbcs a xs l =
-      cbcs-feed E D sE sD d iv crypt skip (mask Cbcs crypt skip es) (restartMask Cbcs es) a es xs 0 iv l refl refl
+      cbcs-feed E D sE sD d iv pattern (mask Cbcs pattern es) (restartMask Cbcs es) a es xs 0 iv l refl refl
 
   -- what has been released at position x is the beginning of the whole sample's result, but for the bytes held
-  pub released : (s : Scheme) → isCiphered s crypt skip 16 0 ≡ true → (xs : List ℕ) → length xs ≡ total es → (x : ℕ)
+  pub released : (s : Scheme) → isCiphered s pattern 16 0 ≡ true → (xs : List ℕ) → length xs ≡ total es → (x : ℕ)
       → x ≤ length xs
-      → feedSample E D d s crypt skip iv es (start iv) (take x xs) .released
-      ≡ take (x - heldAfter (modeOf s) (count (take x (mask s crypt skip es)))) (whole E D iv crypt skip es d s xs)
+      → feedSample E D d s pattern iv es (start iv) (take x xs) .released
+      ≡ take (x - heldAfter (modeOf s) (count (take x (mask s pattern es)))) (whole E D iv pattern es d s xs)
   unfolding feedSample count
   released s a xs l x u =
-      let M : List Bool = mask s crypt skip es in
+      let M : List Bool = mask s pattern es in
       let F : List Bool = restartMask s es in
       let first : Stepped = feed E D d (modeOf s) iv M F (start iv) (take x xs) in
       let rest : List ℕ = feed E D d (modeOf s) iv M F (first .state) (drop x xs) .released in
-      let w : whole E D iv crypt skip es d s xs ≡ first .released ++ rest =
+      let w : whole E D iv pattern es d s xs ≡ first .released ++ rest =
       sym (machine-whole s a xs l)
       ∙ (rw (take-append-drop x xs) at (feed-append E D d (modeOf s) iv M F (start iv) (take x xs) (drop x xs))) in
       let added : Added (modeOf s) M (length {A = ℕ} [] + length (take x xs)) first =

@@ -8,21 +8,22 @@ use native.Mathlib.Nat.{zero-add, zero-mod}
 use native.Mathlib.Omega.{arith}
 use lib.Dec.{eqb, leb}
 use lib.ListN.{length, getD}
-use borrow.Author.Tests.{eqb-true, eqb-false, leb-true, ltb-false, lt-ltb, not-false}
+use borrow.Author.Tests.{eqb-true, eqb-false, leb-true, lt-ltb, not-false}
 use Rattle.octets.specs.Answers.{answer}
 use Rattle.octets.specs.Bytes.{same}
 use Rattle.octets.proofs.Answers.{done-head, done-tail}
 use Rattle.octets.proofs.Tests.{&&-left, &&-right}
 use Rattle.track_spec.specs.declared.Parameters.{Parameters}
 use Rattle.track_spec.specs.Track.{zeros, known, hasConstant, aPattern, eightOrSixteen, allowedProtected, allowedFields, allowed}
-use Rattle.track_spec.proofs.Codes.{known-cases, allowed-small}
+use Rattle.track_spec.proofs.Codes.{known-cases}
 use Rattle.subsample_spec.specs.declared.SubsampleMap.{SubsampleMap}
 use Rattle.subsample_spec.specs.Auxiliary.{limit, sum, entryLength, mapRows}
+use Rattle.subsample_spec.proofs.Reading.{count-allowed}
+use Rattle.scheme.specs.declared.Pattern.{Pattern}
 use Rattle.scheme.specs.declared.Scheme.{Scheme}
 use Rattle.scheme.specs.declared.Scheme.the-variants.{Cenc, Cbc1, Cens, Cbcs}
-use Rattle.scheme.specs.Layout.{schemeOf, inWholeBlock, inCryptRun, isCiphered, Entry, entry, entries, total}
+use Rattle.scheme.specs.Layout.{schemeOf, patternOf, period, inWholeBlock, inCryptRun, isCiphered, Entry, entry, entries, total}
 use Rattle.scheme.specs.Part.{protectedEntries, entriesOf}
-use Rattle.scheme.proofs.Walk.{Pattern}
 
 -- ---- Parameters.
 
@@ -32,31 +33,37 @@ isCbcs Cbc1 = false
 isCbcs Cens = false
 isCbcs Cbcs = true
 
-some-first : (crypt skip : ℕ) → aPattern crypt skip ≡ true → inCryptRun crypt skip 0 ≡ true
-unfolding inCryptRun
-some-first crypt skip h =
-    let l : 1 ≤ crypt =
-    leb-true 1 crypt (&&-left (leb 1 crypt) (leb crypt 15) (&&-left (leb 1 crypt && leb crypt 15) (leb skip 15) h)) in
-    let z : 0 / 16 % (crypt + skip) ≡ 0 = zero-mod (crypt + skip) in
-    rw z (lt-ltb 0 crypt l)
+module _ (pattern : Pattern) where
+  abbrev crypt : ℕ
+  crypt = pattern .crypt
 
-module _ (ivSize crypt skip : ℕ) where
+  abbrev skip : ℕ
+  skip = pattern .skip
+
+  some-first : aPattern crypt skip ≡ true → inCryptRun pattern 0 ≡ true
+  unfolding inCryptRun
+  some-first h =
+      let l : 1 ≤ crypt =
+      leb-true 1 crypt (&&-left (leb 1 crypt) (leb crypt 15) (&&-left (leb 1 crypt && leb crypt 15) (leb skip 15) h)) in
+      let z : 0 / 16 % period pattern ≡ 0 = zero-mod (period pattern) in
+      rw z (lt-ltb 0 crypt l)
+
   -- a range of a protected track begins with a ciphered block
-  pub first-ciphered : (code : List ℕ) → known code ≡ true → allowedProtected code ivSize crypt skip ≡ true
-      → isCiphered (schemeOf code) crypt skip 16 0 ≡ true
+  pub first-ciphered : (ivSize : ℕ) (code : List ℕ) → known code ≡ true → allowedProtected code ivSize crypt skip ≡ true
+      → isCiphered (schemeOf code) pattern 16 0 ≡ true
   unfolding schemeOf same allowedProtected isCiphered inWholeBlock
-  first-ciphered code k h =
+  first-ciphered ivSize code k h =
       ⊎-elim (λ e. rw e)
       (⊎-elim (λ e. rw e)
-      (⊎-elim (λ e. rw e (some-first crypt skip (&&-right (eightOrSixteen ivSize) (aPattern crypt skip) (rw e at h))))
-      (λ e. rw e (some-first crypt skip (&&-right (eqb ivSize 0) (aPattern crypt skip) (rw e at h))))))
+      (⊎-elim (λ e. rw e (some-first (&&-right (eightOrSixteen ivSize) (aPattern crypt skip) (rw e at h))))
+      (λ e. rw e (some-first (&&-right (eqb ivSize 0) (aPattern crypt skip) (rw e at h))))))
       (known-cases code k)
 
   -- and in cbcs its IV is the constant one
-  pub cbcs-constant : (code : List ℕ) → known code ≡ true → allowedProtected code ivSize crypt skip ≡ true → schemeOf code ≡ Cbcs
+  pub cbcs-constant : (ivSize : ℕ) (code : List ℕ) → known code ≡ true → allowedProtected code ivSize crypt skip ≡ true → schemeOf code ≡ Cbcs
       → ivSize ≡ 0
   unfolding schemeOf same allowedProtected
-  cbcs-constant code k h s =
+  cbcs-constant ivSize code k h s =
       ⊎-elim (λ e. absurd (other Cenc refl (rw e at s)))
       (⊎-elim (λ e. absurd (other Cbc1 refl (rw e at s)))
       (⊎-elim (λ e. absurd (other Cens refl (rw e at s)))
@@ -75,16 +82,11 @@ allowed-protected p h one =
     (&&-right (hasConstant (p .protected) (p .«iv_size») || same (p .«constant_iv» .0) zeros)
     (allowedFields (p .code) (p .protected) (p .«iv_size») (p .crypt) (p .skip)) h)
 
--- allowed parameters of a protected track, as far as the walk goes by them
-pub allowed-pattern : (p : Parameters) → known (p .code) ≡ true → allowed p ≡ true → p .protected ≡ 1
-    → Pattern (schemeOf (p .code)) (p .crypt) (p .skip)
-allowed-pattern p k a one =
-    let small = allowed-small p a in
-    record {
-      low = omega (arith, small .0);
-      high = omega (arith, small .1);
-      first = first-ciphered (p .«iv_size») (p .crypt) (p .skip) (p .code) k (allowed-protected p a one);
-    }
+-- a range of an allowed protected track begins with a ciphered block
+pub allowed-first : (p : Parameters) → known (p .code) ≡ true → allowed p ≡ true → p .protected ≡ 1
+    → isCiphered (schemeOf (p .code)) (patternOf p) 16 0 ≡ true
+unfolding patternOf
+allowed-first p k a one = first-ciphered (patternOf p) (p .«iv_size») (p .code) k (allowed-protected p a one)
 
 -- ---- The map.
 
@@ -118,8 +120,7 @@ total-sum m (suc k) h l =
 module _ (p : Parameters) (m : SubsampleMap) (n : ℕ) (hc : length (m .clear) ≡ limit) (hp : length (m .protected) ≡ limit)
     (h : answer (mapRows (p .code) m n) ≡ 0) where
   few : m .count ≤ limit
-  unfolding mapRows
-  few = ltb-false limit (m .count) (done-head 9 _ _ (omega arith) h)
+  few = count-allowed (p .code) m n h
 
   added : eqb (m .count) 0 ≡ false → sum (entryLength m) (m .count) ≡ n
   unfolding mapRows

@@ -1,36 +1,18 @@
 -- What a run of ciphered bytes gives, of either modeOf.
-use mathlib.Core.Path.{_≡_, refl, sym, _∙_}
+use mathlib.Core.Path.{_≡_, _∙_}
 use mathlib.Core.Bool.{Bool, true, false, cond}
 use mathlib.Core.List.{List, _++_}
 use Prim.Native.Nat.{ℕ, _+_, _-_, _*_, _/_, _%_, _<_}
 use native.Mathlib.Omega.{arith}
 use lib.ListN.{length, replicate}
 use Rattle.modes_spec.specs.declared.Direction.{Direction}
-use Rattle.scheme.specs.declared.Scheme.{Scheme}
-use Rattle.scheme.specs.declared.Scheme.the-variants.{Cenc, Cbc1, Cens, Cbcs}
 use Rattle.modes_spec.specs.Modes.{Cipher, counterAt, ctr, cbc, chainEnd}
 use Rattle.octets.specs.Bytes.{Bytes}
 use Rattle.scheme.proofs.Pieces.{Sized}
-use Rattle.scheme.specs.Machine.{Mode, Counter, Chain, modeOf}
-use Rattle.scheme.proofs.Passes.{Passes, passes-ctr, passes-cbc}
-use Rattle.scheme.proofs.Walk.{counts, RestartsAt, Blocks}
-
-flip : {A : Type 0} → true ≡ false → A
-flip e = absurd (let z : _≡_ {A = ℕ} 0 1 = cc in omega arith)
-
-pub is-counter : (s : Scheme) → counts s ≡ true → modeOf s ≡ Counter
-unfolding modeOf
-is-counter Cenc e = refl
-is-counter Cbc1 e = flip (sym e)
-is-counter Cens e = refl
-is-counter Cbcs e = flip (sym e)
-
-pub is-chain : (s : Scheme) → counts s ≡ false → modeOf s ≡ Chain
-unfolding modeOf
-is-chain Cenc e = flip e
-is-chain Cbc1 e = refl
-is-chain Cens e = flip e
-is-chain Cbcs e = refl
+use Rattle.scheme.specs.declared.Mode.{Mode}
+use Rattle.scheme.specs.declared.Mode.the-variants.{Counter, Chain}
+use Rattle.scheme.proofs.Passes.{passes-ctr, passes-cbc}
+use Rattle.scheme.specs.Walk.{Passes, RestartsAt, Blocks}
 
 module _ (E D : Cipher) (d : Direction) (iv : List ℕ) (a : Bool) (fs : List Bool) (u : ℕ) (c xs r ys : List ℕ) where
   abbrev Given : Mode → Type 0

@@ -10,13 +10,14 @@ use lib.Seq.{ext-getD, getD-take, getD-drop, drop-drop, take-add, length-take-le
 use borrow.Author.Tests.{ltb-true, ltb-false}
 use borrow.Rule.Slice.PartMut.{putMid}
 use Rattle.modes_spec.specs.declared.Direction.{Direction}
+use Rattle.scheme.specs.declared.Pattern.{Pattern}
 use Rattle.scheme.specs.declared.Scheme.{Scheme}
 use Rattle.scheme.specs.Layout.{isCiphered, restarts, rangeMarks}
 use Rattle.modes_spec.specs.Modes.{Cipher}
 use Rattle.scheme.proofs.Agreement.{length-range}
 use Rattle.scheme.specs.Machine.{modeOf}
-use Rattle.scheme.proofs.Passes.{Passes, passes-join, passes-clear}
-use Rattle.scheme.proofs.Walk.{RangeAsks, RangeSays, entryMarks, EntryAsks, EntrySays}
+use Rattle.scheme.proofs.Passes.{passes-join, passes-clear}
+use Rattle.scheme.specs.Walk.{Passes, RangeAsks, RangeSays, entryMarks, EntryAsks, EntrySays}
 
 module _ (f : ℕ → ℕ → Bool) (a n x m : ℕ) (within : x + m ≤ a + n) where
   abbrev A : List Bool
@@ -62,12 +63,12 @@ module _ (f : ℕ → ℕ → Bool) (a n x m : ℕ) (within : x + m ≤ a + n) w
       ap (λ (k : ℕ). take k (drop x (A ++ R))) e
       ∙ rw (take-add stay (m - stay) (drop x (A ++ R)), drop-drop stay x (A ++ R), clear-part, range-rest)
 
-module _ {s : Scheme} {crypt skip a n x m u : ℕ} (q : EntryAsks s crypt skip a n x m u) where
-  pub entry-asks : RangeAsks s crypt skip n (x - a) (m - min (a - x) m) u
+module _ {s : Scheme} {pattern : Pattern} {a n x m u : ℕ} (q : EntryAsks s pattern a n x m u) where
+  pub entry-asks : RangeAsks s pattern n (x - a) (m - min (a - x) m) u
   entry-asks =
       let e : x - a + (m - min (a - x) m) ≡ x + m - a = omega arith in
       record {
-        pattern = q .pattern;
+        first = q .first;
         small = q .small;
         within = omega (arith, q .within);
         used = q .used;
@@ -76,14 +77,14 @@ module _ {s : Scheme} {crypt skip a n x m u : ℕ} (q : EntryAsks s crypt skip a
         to = rw e (q .to);
       }
 
-module _ (E D : Cipher) (d : Direction) (s : Scheme) (crypt skip : ℕ) (iv : List ℕ) (a n x u : ℕ) (c xs : List ℕ)
-    (q : EntryAsks s crypt skip a n x (length xs) u) where
+module _ (E D : Cipher) (d : Direction) (s : Scheme) (pattern : Pattern) (iv : List ℕ) (a n x u : ℕ) (c xs : List ℕ)
+    (q : EntryAsks s pattern a n x (length xs) u) where
   abbrev st : ℕ
   st = min (a - x) (length xs)
 
   pub entry-says : (u′ : ℕ) (c′ z : List ℕ)
-      → RangeSays E D d s crypt skip iv n (x - a) u c (take (length xs - st) (drop st xs)) u′ c′ z
-      → EntrySays E D d s crypt skip iv a n x u c xs u′ c′ (putMid st (length xs - st) xs z)
+      → RangeSays E D d s pattern iv n (x - a) u c (take (length xs - st) (drop st xs)) u′ c′ z
+      → EntrySays E D d s pattern iv a n x u c xs u′ c′ (putMid st (length xs - st) xs z)
   entry-says u′ c′ z r =
       let size : length (drop st xs) ≡ length xs - st = length-drop st xs in
       let all : take (length xs - st) (drop st xs) ≡ drop st xs = take-all (length xs - st) (drop st xs) (omega arith) in
@@ -96,7 +97,7 @@ module _ (E D : Cipher) (d : Direction) (s : Scheme) (crypt skip : ℕ) (iv : Li
       record {
         passes =
             rw (
-              entry-split (isCiphered s crypt skip) a n x (length xs) (q .within),
+              entry-split (isCiphered s pattern) a n x (length xs) (q .within),
               entry-split (restarts s) a n x (length xs) (q .within),
               rest,
               append-nil,
@@ -108,11 +109,11 @@ module _ (E D : Cipher) (d : Direction) (s : Scheme) (crypt skip : ℕ) (iv : Li
 
   -- the same at numbers that the code worked out
   module _ (t y : ℕ) (et : t ≡ min (a - x) (length xs)) (ey : y ≡ x - a) where
-    pub entry-asked : RangeAsks s crypt skip n y (length (take (length xs - t) (drop t xs))) u
+    pub entry-asked : RangeAsks s pattern n y (length (take (length xs - t) (drop t xs))) u
     entry-asked =
         rw (et, ey, take-all (length xs - st) (drop st xs) (simp length-drop (omega arith)), length-drop st xs) (entry-asks q)
 
     pub entry-turned : (u′ : ℕ) (c′ z : List ℕ)
-        → RangeSays E D d s crypt skip iv n y u c (take (length xs - t) (drop t xs)) u′ c′ z
-        → EntrySays E D d s crypt skip iv a n x u c xs u′ c′ (putMid t (length xs - t) xs z)
+        → RangeSays E D d s pattern iv n y u c (take (length xs - t) (drop t xs)) u′ c′ z
+        → EntrySays E D d s pattern iv a n x u c xs u′ c′ (putMid t (length xs - t) xs z)
     entry-turned = rw (et, ey) entry-says

@@ -13,10 +13,10 @@ use Rattle.modes_spec.specs.Modes.{Cipher}
 use Rattle.track_spec.specs.declared.Parameters.{Parameters}
 use Rattle.subsample_spec.specs.declared.SubsampleMap.{SubsampleMap}
 use Rattle.subsample_spec.specs.Auxiliary.{longest}
-use Rattle.scheme.specs.Layout.{schemeOf, isCiphered, total, mask, count}
+use Rattle.scheme.specs.Layout.{patternOf, schemeOf, isCiphered, total, mask, count}
 use Rattle.scheme.specs.Machine.{free, feedSample}
 use Rattle.scheme.specs.Part.{protectedEntries, entriesOf, heldUnder, fits, feedUnder, transformed}
-use Rattle.scheme.proofs.Walk.{Pattern, SampleAsks}
+use Rattle.scheme.specs.Walk.{SampleAsks}
 use Rattle.scheme.proofs.SampleParts.{whole-asks}
 use Rattle.scheme.proofs.Under.{clear-fed}
 
@@ -36,17 +36,17 @@ module _ (p : Parameters) (m : SubsampleMap) (n : ℕ) (one : p .protected ≡ 1
   -- the conditions, one by one
   pub fits-is : (x k : ℕ)
       → fits p m n x k
-      ≡ leb n longest && isCiphered (schemeOf (p .code)) (p .crypt) (p .skip) 16 0 && leb (x + k) (total (protectedEntries m n))
+      ≡ leb n longest && isCiphered (schemeOf (p .code)) (patternOf p) 16 0 && leb (x + k) (total (protectedEntries m n))
       && eqb (heldUnder p m n x) 0 && eqb (heldUnder p m n (x + k)) 0
   unfolding fits
   fits-is x k = rw protected-entries
 
-  module _ (x k : ℕ) (f : fits p m n x k ≡ true) (low : p .crypt ≤ 255) (high : p .skip ≤ 255) where
+  module _ (x k : ℕ) (f : fits p m n x k ≡ true) where
     abbrev a : Bool
     a = leb n longest
 
     abbrev b : Bool
-    b = isCiphered (schemeOf (p .code)) (p .crypt) (p .skip) 16 0
+    b = isCiphered (schemeOf (p .code)) (patternOf p) 16 0
 
     abbrev c : Bool
     c = leb (x + k) (total (protectedEntries m n))
@@ -64,15 +64,15 @@ module _ (p : Parameters) (m : SubsampleMap) (n : ℕ) (one : p .protected ≡ 1
     fits-length =
         leb-true n longest (&&-left a b (&&-left (a && b) c (&&-left (a && b && c) d (&&-left (a && b && c && d) e all))))
 
-    pub fits-asks : SampleAsks (schemeOf (p .code)) (p .crypt) (p .skip) (protectedEntries m n) x k
-        (count (take x (mask (schemeOf (p .code)) (p .crypt) (p .skip) (protectedEntries m n))) % 16)
+    pub fits-asks : SampleAsks (schemeOf (p .code)) (patternOf p) (protectedEntries m n) x k
+        (count (take x (mask (schemeOf (p .code)) (patternOf p) (protectedEntries m n))) % 16)
     unfolding heldUnder
     fits-asks =
         let h3 = &&-left (a && b && c) d (&&-left (a && b && c && d) e all) in
         let h4 : heldUnder p m n x ≡ 0 = eqb-true _ _ (&&-right (a && b && c) d (&&-left (a && b && c && d) e all)) in
         let h5 : heldUnder p m n (x + k) ≡ 0 = eqb-true _ _ (&&-right (a && b && c && d) e all) in
         record {
-          pattern = record { low = low; high = high; first = &&-right a b (&&-left (a && b) c h3) };
+          first = &&-right a b (&&-left (a && b) c h3);
           within = leb-true (x + k) (total (protectedEntries m n)) (&&-right (a && b) c h3);
           from = rw protected-entries at h4;
           to = rw protected-entries at h5;
@@ -83,7 +83,7 @@ module _ (p : Parameters) (m : SubsampleMap) (n : ℕ) (one : p .protected ≡ 1
 module _ (E D : Cipher) (d : Direction) (p : Parameters) (m : SubsampleMap) (n x : ℕ) (c xs : List ℕ) where
   pub transformed-fits : p .protected ≡ 1 → fits p m n x (length xs) ≡ true
       → transformed E D d p m n x c xs
-      ≡ feedSample E D d (schemeOf (p .code)) (p .crypt) (p .skip) (p .«constant_iv» .0) (protectedEntries m n) (free x c) xs
+      ≡ feedSample E D d (schemeOf (p .code)) (patternOf p) (p .«constant_iv» .0) (protectedEntries m n) (free x c) xs
   unfolding transformed feedUnder
   transformed-fits one f = rw (f, protected-entries p m n one)
 
@@ -107,7 +107,7 @@ module _ (E D : Cipher) (d : Direction) (p : Parameters) (m : SubsampleMap) (n x
 
 -- a part that the walk may take fits, and so does a whole sample
 module _ (p : Parameters) (m : SubsampleMap) (n : ℕ) (one : p .protected ≡ 1) (l : n ≤ longest) where
-  pub asks-fits : (x k u : ℕ) → SampleAsks (schemeOf (p .code)) (p .crypt) (p .skip) (protectedEntries m n) x k u → fits p m n x k ≡ true
+  pub asks-fits : (x k u : ℕ) → SampleAsks (schemeOf (p .code)) (patternOf p) (protectedEntries m n) x k u → fits p m n x k ≡ true
   unfolding heldUnder
   asks-fits x k u w =
       let e = protected-entries p m n one in
@@ -116,12 +116,12 @@ module _ (p : Parameters) (m : SubsampleMap) (n : ℕ) (one : p .protected ≡ 1
       rw (
         fits-is p m n one x k,
         le-leb n longest l,
-        w .pattern .first,
+        w .first,
         le-leb (x + k) (total (protectedEntries m n)) (w .within),
         eq-eqb (heldUnder p m n x) 0 from,
         eq-eqb (heldUnder p m n (x + k)) 0 to,
       )
 
-  pub fits-whole : Pattern (schemeOf (p .code)) (p .crypt) (p .skip) → total (protectedEntries m n) ≡ n → fits p m n 0 n ≡ true
+  pub fits-whole : isCiphered (schemeOf (p .code)) (patternOf p) 16 0 ≡ true → total (protectedEntries m n) ≡ n → fits p m n 0 n ≡ true
   fits-whole pattern t =
-      asks-fits 0 n 0 (whole-asks (p .crypt) (p .skip) (schemeOf (p .code)) (protectedEntries m n) n pattern (sym t))
+      asks-fits 0 n 0 (whole-asks (patternOf p) (schemeOf (p .code)) (protectedEntries m n) n pattern (sym t))

@@ -10,28 +10,28 @@ use lib.ListN.{length, getD, take, drop, replicate, length-append, take-append-d
 use lib.Seq.{length-take-le, drop-cons, take-all}
 use borrow.Author.Tests.{ne-eqb, lt-ltb, le-ltb, ltb-true, ltb-false}
 use Rattle.modes_spec.specs.declared.Direction.{Direction}
+use Rattle.scheme.specs.declared.Pattern.{Pattern}
 use Rattle.scheme.specs.declared.Scheme.{Scheme}
 use Rattle.scheme.specs.declared.Scheme.the-variants.{Cenc, Cbc1, Cens, Cbcs}
-use Rattle.scheme.specs.Layout.{Entry, total, inWholeBlock, inCryptRun, isCiphered, marks, mask, restartMask}
+use Rattle.scheme.specs.Layout.{Entry, total, inWholeBlock, inCryptRun, isCiphered, marks, mask, restartMask, count}
 use Rattle.modes_spec.specs.Modes.{Cipher}
 use Rattle.scheme.proofs.Pieces.{cond-law, Sized, heldAfter, Added, feed-adds, feed-position}
 use Rattle.scheme.proofs.Agreement.{drop-head, drop-tail}
-use Rattle.scheme.specs.Machine.{free}
-use Rattle.scheme.specs.Held.{Place, Clear, Inside, place, inPlace, inBlock}
+use Rattle.scheme.specs.Machine.{free, State, Stepped, modeOf, chained, cipheredStep, step, feed, feedSample}
+use Rattle.scheme.specs.Held.{Place, Clear, Inside, place, inPlace, inBlock, heldAt}
 use Rattle.scheme.proofs.Positions.{place-law, marks-at}
-use Rattle.scheme.specs.Held.{heldAt}
 use Rattle.scheme.proofs.Demand.{heldAt-is}
-use Rattle.scheme.specs.Layout.{count}
-use Rattle.scheme.specs.Machine.{State, Stepped, Mode, Counter, Chain, modeOf, chained, ciphered, step, feed, feedSample}
-use Rattle.scheme.proofs.Passes.{left, feed-joined}
-use Rattle.scheme.proofs.Walk.{Pattern, SampleAsks}
+use Rattle.scheme.specs.declared.Mode.{Mode}
+use Rattle.scheme.specs.declared.Mode.the-variants.{Counter, Chain}
+use Rattle.scheme.proofs.Passes.{feed-joined}
+use Rattle.scheme.specs.Walk.{left, SampleAsks}
 
 -- bytes of a block that isn't complete are held
 hold-feed : (E D : Cipher) (d : Direction) (iv : List ℕ) (M F : List Bool) (p : ℕ) (c h zs : List ℕ) (ns : List Bool)
     → length h + length zs ≤ 15 → drop p M ≡ replicate (length zs) true ++ ns
     → feed E D d Chain iv M F (record { position = p; block = c; held = h }) zs
     ≡ record { state = record { position = p + length zs; block = c; held = h ++ zs }; released = [] }
-unfolding feed step ciphered chained
+unfolding feed step cipheredStep chained
 hold-feed E D d iv M F p c h [] ns l e = rw (add-zero, append-nil)
 hold-feed E D d iv M F p c h (z ∷ zs) ns l e =
     let t : drop p M ≡ true ∷ (replicate (length zs) true ++ ns) = e in
@@ -117,90 +117,90 @@ back (e ∷ es) x n o j l =
     (λ u v h. back-behind e es x n o j l u v (back es (x - e .clear - e .protected) n o j l h))
 
 -- in a chain scheme all bytes of a block go with the block
-same-block : (s : Scheme) (crypt skip n o y : ℕ) → modeOf s ≡ Chain → y / 16 ≡ o / 16
-    → isCiphered s crypt skip n y ≡ isCiphered s crypt skip n o
+same-block : (s : Scheme) (pattern : Pattern) (n o y : ℕ) → modeOf s ≡ Chain → y / 16 ≡ o / 16
+    → isCiphered s pattern n y ≡ isCiphered s pattern n o
 unfolding modeOf isCiphered inWholeBlock inCryptRun
-same-block Cenc crypt skip n o y k e = absurd (let z : _≡_ {A = ℕ} 0 1 = cc in omega arith)
-same-block Cbc1 crypt skip n o y k e = rw e
-same-block Cens crypt skip n o y k e = absurd (let z : _≡_ {A = ℕ} 0 1 = cc in omega arith)
-same-block Cbcs crypt skip n o y k e = rw e
+same-block Cenc pattern n o y k e = absurd (let z : _≡_ {A = ℕ} 0 1 = cc in omega arith)
+same-block Cbc1 pattern n o y k e = rw e
+same-block Cens pattern n o y k e = absurd (let z : _≡_ {A = ℕ} 0 1 = cc in omega arith)
+same-block Cbcs pattern n o y k e = rw e
 
 -- t bytes are held at x: they lie before it, all of them ciphered, and nothing is held where they begin
-pub record Back (s : Scheme) (crypt skip : ℕ) (es : List Entry) (x t : ℕ) : Type 0 where
+pub record Back (s : Scheme) (pattern : Pattern) (es : List Entry) (x t : ℕ) : Type 0 where
   pub few : t ≤ 15
   pub low : t ≤ x
-  pub marked : drop (x - t) (mask s crypt skip es) ≡ replicate t true ++ drop x (mask s crypt skip es)
-  pub start : inBlock crypt skip s (place es (x - t)) ≡ 0
+  pub marked : drop (x - t) (mask s pattern es) ≡ replicate t true ++ drop x (mask s pattern es)
+  pub start : inBlock pattern s (place es (x - t)) ≡ 0
 
-module _ (s : Scheme) (crypt skip : ℕ) (k : modeOf s ≡ Chain) (es : List Entry) (x : ℕ) where
-  nothing : inBlock crypt skip s (place es x) ≡ 0 → Back s crypt skip es x (inBlock crypt skip s (place es x))
+module _ (s : Scheme) (pattern : Pattern) (k : modeOf s ≡ Chain) (es : List Entry) (x : ℕ) where
+  nothing : inBlock pattern s (place es x) ≡ 0 → Back s pattern es x (inBlock pattern s (place es x))
   nothing e =
       let z : x - 0 ≡ x = omega arith in rw e (record { few = omega arith; low = omega arith; marked = rw z; start = rw z e })
 
-  inside : (n o : ℕ) → place es x ≡ Inside n o → (b : Bool) → isCiphered s crypt skip n o ≡ b
-      → Back s crypt skip es x (inBlock crypt skip s (place es x))
+  inside : (n o : ℕ) → place es x ≡ Inside n o → (b : Bool) → isCiphered s pattern n o ≡ b
+      → Back s pattern es x (inBlock pattern s (place es x))
   unfolding inBlock inPlace mask
   inside n o e false f = nothing (rw (e, f))
   inside n o e true f =
       let t : ℕ = o % 16 in
       let r = back es x n o t (omega arith) e in
-      let h : inBlock crypt skip s (place es x) ≡ t = rw (e, f) in
+      let h : inBlock pattern s (place es x) ≡ t = rw (e, f) in
       let q : x - t + t ≡ x = omega (arith, r .low) in
       rw h
       (record {
         few = omega arith;
         low = omega (arith, r .low);
         marked = rw q at
-            (run-true (marks (isCiphered s crypt skip) es) t (x - t)
+            (run-true (marks (isCiphered s pattern) es) t (x - t)
             (λ i l.
             let w : x - t + i ≡ x - (t - i) = omega (arith, r .low) in
             let y = back es x n o (t - i) (omega arith) e in
-            marks-at (isCiphered s crypt skip) es (x - t + i)
-            ∙ rw (w, y .there) (same-block s crypt skip n o (o - (t - i)) k (omega arith) ∙ f)));
+            marks-at (isCiphered s pattern) es (x - t + i)
+            ∙ rw (w, y .there) (same-block s pattern n o (o - (t - i)) k (omega arith) ∙ f)));
         start =
             let g : (o - t) % 16 ≡ 0 = omega arith in
-            rw (r .there, g) (cond-law (λ (y : ℕ). y ≡ 0) (isCiphered s crypt skip n (o - t)) (λ q. refl) (λ q. refl));
+            rw (r .there, g) (cond-law (λ (y : ℕ). y ≡ 0) (isCiphered s pattern n (o - t)) (λ q. refl) (λ q. refl));
       })
 
-  at-place : (p : Place) → place es x ≡ p → Back s crypt skip es x (inBlock crypt skip s (place es x))
+  at-place : (p : Place) → place es x ≡ p → Back s pattern es x (inBlock pattern s (place es x))
   unfolding inBlock inPlace
   at-place Clear e = nothing (rw e)
-  at-place (Inside n o) e = inside n o e (isCiphered s crypt skip n o) refl
+  at-place (Inside n o) e = inside n o e (isCiphered s pattern n o) refl
 
-  pub held-back : Back s crypt skip es x (inBlock crypt skip s (place es x))
+  pub held-back : Back s pattern es x (inBlock pattern s (place es x))
   held-back = at-place (place es x) refl
 
 -- ---- a piece of a sample, as one part that nothing is held around
 
-pub held-counter : (crypt skip : ℕ) (s : Scheme) (es : List Entry) (x : ℕ) → modeOf s ≡ Counter → heldAt crypt skip es s x ≡ 0
+pub held-counter : (pattern : Pattern) (s : Scheme) (es : List Entry) (x : ℕ) → modeOf s ≡ Counter → heldAt pattern es s x ≡ 0
 unfolding heldAt modeOf
-held-counter crypt skip Cenc es x e = refl
-held-counter crypt skip Cbc1 es x e = absurd (let z : _≡_ {A = ℕ} 0 1 = cc in omega arith)
-held-counter crypt skip Cens es x e = refl
-held-counter crypt skip Cbcs es x e = absurd (let z : _≡_ {A = ℕ} 0 1 = cc in omega arith)
+held-counter pattern Cenc es x e = refl
+held-counter pattern Cbc1 es x e = absurd (let z : _≡_ {A = ℕ} 0 1 = cc in omega arith)
+held-counter pattern Cens es x e = refl
+held-counter pattern Cbcs es x e = absurd (let z : _≡_ {A = ℕ} 0 1 = cc in omega arith)
 
-held-chain : (crypt skip : ℕ) (s : Scheme) (es : List Entry) (x : ℕ) → modeOf s ≡ Chain
-    → heldAt crypt skip es s x ≡ inBlock crypt skip s (place es x)
+held-chain : (pattern : Pattern) (s : Scheme) (es : List Entry) (x : ℕ) → modeOf s ≡ Chain
+    → heldAt pattern es s x ≡ inBlock pattern s (place es x)
 unfolding heldAt modeOf
-held-chain crypt skip Cenc es x e = absurd (let z : _≡_ {A = ℕ} 0 1 = cc in omega arith)
-held-chain crypt skip Cbc1 es x e = refl
-held-chain crypt skip Cens es x e = absurd (let z : _≡_ {A = ℕ} 0 1 = cc in omega arith)
-held-chain crypt skip Cbcs es x e = refl
+held-chain pattern Cenc es x e = absurd (let z : _≡_ {A = ℕ} 0 1 = cc in omega arith)
+held-chain pattern Cbc1 es x e = refl
+held-chain pattern Cens es x e = absurd (let z : _≡_ {A = ℕ} 0 1 = cc in omega arith)
+held-chain pattern Cbcs es x e = refl
 
 empty : (l : List ℕ) → length l ≡ 0 → l ≡ []
 empty [] e = refl
 empty (x ∷ l) e = absurd (omega arith)
 
 -- of a chain scheme
-module _ (s : Scheme) (crypt skip : ℕ) (k : modeOf s ≡ Chain) (es : List Entry) (x : ℕ) where
-  pub held-marks : Back s crypt skip es x (heldAt crypt skip es s x)
-  held-marks = rw (held-chain crypt skip s es x k) (held-back s crypt skip k es x)
+module _ (s : Scheme) (pattern : Pattern) (k : modeOf s ≡ Chain) (es : List Entry) (x : ℕ) where
+  pub held-marks : Back s pattern es x (heldAt pattern es s x)
+  held-marks = rw (held-chain pattern s es x k) (held-back s pattern k es x)
 
-module _ (E D : Cipher) (sE : Sized E) (sD : Sized D) (d : Direction) (s : Scheme) (crypt skip : ℕ) (iv : List ℕ)
+module _ (E D : Cipher) (sE : Sized E) (sD : Sized D) (d : Direction) (s : Scheme) (pattern : Pattern) (iv : List ℕ)
     (es : List Entry) (p : ℕ) (c h zs : List ℕ)
-    (n : length h ≡ heldAt crypt skip es s p) where
+    (n : length h ≡ heldAt pattern es s p) where
   abbrev H : ℕ → ℕ
-  H x = heldAt crypt skip es s x
+  H x = heldAt pattern es s x
 
   abbrev all : List ℕ
   all = h ++ zs
@@ -219,11 +219,11 @@ module _ (E D : Cipher) (sE : Sized E) (sD : Sized D) (d : Direction) (s : Schem
   pub held-few : H end ≤ length all
   unfolding feedSample
   held-few =
-      let M : List Bool = mask s crypt skip es in
+      let M : List Bool = mask s pattern es in
       let a : Added (modeOf s) M (length h + length zs) (feed E D d (modeOf s) iv M (restartMask s es) from zs) =
-      feed-adds E D sE sD d iv M (restartMask s es) (modeOf s) from zs (n ∙ sym (heldAt-is crypt skip es s p)) in
+      feed-adds E D sE sD d iv M (restartMask s es) (modeOf s) from zs (n ∙ sym (heldAt-is pattern es s p)) in
       let e : H end ≡ length (feed E D d (modeOf s) iv M (restartMask s es) from zs .state .held) =
-      sym (heldAt-is crypt skip es s end)
+      sym (heldAt-is pattern es s end)
       ∙ ap (λ (y : ℕ). heldAfter (modeOf s) (count (take y M)))
       (sym (feed-position E D d (modeOf s) iv M (restartMask s es) from zs))
       ∙ sym (a .sound) in
@@ -231,8 +231,8 @@ module _ (E D : Cipher) (sE : Sized E) (sD : Sized D) (d : Direction) (s : Schem
 
   abbrev Done : List ℕ → List ℕ → Type 0
   Done c′ ys =
-      feedSample E D d s crypt skip iv es (free (p - H p) c) (take due all) ≡ left (p - H p + length (take due all)) c′ ys
-      → feedSample E D d s crypt skip iv es from zs
+      feedSample E D d s pattern iv es (free (p - H p) c) (take due all) ≡ left (p - H p + length (take due all)) c′ ys
+      → feedSample E D d s pattern iv es from zs
       ≡ record { state = record { position = end; block = c′; held = drop due all }; released = ys }
 
   size-all : length all ≡ H p + length zs
@@ -246,14 +246,14 @@ module _ (E D : Cipher) (sE : Sized E) (sD : Sized D) (d : Direction) (s : Schem
 
   module _ (k : modeOf s ≡ Chain) where
     abbrev M : List Bool
-    M = mask s crypt skip es
+    M = mask s pattern es
 
     abbrev fedBy : State → List ℕ → Stepped
     fedBy t xs = feed E D d Chain iv M (restartMask s es) t xs
 
     first : fedBy (free (p - H p) c) h ≡ record { state = from; released = [] }
     first =
-        let b : Back s crypt skip es p (H p) = held-marks s crypt skip k es p in
+        let b : Back s pattern es p (H p) = held-marks s pattern k es p in
         let q : p - H p + length h ≡ p = omega (arith, b .low) in
         rw q at (hold-feed E D d iv M (restartMask s es) (p - H p) c [] h (drop p M) (omega (arith, b .few)) (rw n (b .marked)))
 
@@ -264,8 +264,8 @@ module _ (E D : Cipher) (sE : Sized E) (sD : Sized D) (d : Direction) (s : Schem
         → fedBy (free (p - H p + length (take due all)) c′) (drop due all)
         ≡ record { state = record { position = end; block = c′; held = drop due all }; released = [] }
     last c′ =
-        let b : Back s crypt skip es p (H p) = held-marks s crypt skip k es p in
-        let e : Back s crypt skip es end (H end) = held-marks s crypt skip k es end in
+        let b : Back s pattern es p (H p) = held-marks s pattern k es p in
+        let e : Back s pattern es end (H end) = held-marks s pattern k es end in
         let q : p - H p + length (take due all) ≡ end - H end = rw size-due (omega (arith, b .low, size-all, held-few)) in
         let r : end - H end + length (drop due all) ≡ end = rw size-held (omega (arith, e .low)) in
         rw q
@@ -287,7 +287,7 @@ module _ (E D : Cipher) (sE : Sized E) (sD : Sized D) (d : Direction) (s : Schem
 
   by-counter : modeOf s ≡ Counter → (c′ ys : List ℕ) → Done c′ ys
   by-counter k c′ ys fed =
-      let z : (x : ℕ) → H x ≡ 0 = λ x. held-counter crypt skip s es x k in
+      let z : (x : ℕ) → H x ≡ 0 = λ x. held-counter pattern s es x k in
       let e : h ≡ [] = empty h (n ∙ z p) in
       let a : p - H p ≡ p = omega (arith, z p) in
       let l : length all ≤ due = omega (arith, z end) in
@@ -306,31 +306,31 @@ module _ (E D : Cipher) (sE : Sized E) (sD : Sized D) (d : Direction) (s : Schem
   -- where the part lies that the held bytes and the piece make: nothing is held where it begins and where it ends
   begins : (f : Mode) → modeOf s ≡ f → (x : ℕ) → (H x ≤ x) × (H (x - H x) ≡ 0)
   begins Counter k x =
-      let z : H x ≡ 0 = held-counter crypt skip s es x k in (omega arith, held-counter crypt skip s es (x - H x) k)
+      let z : H x ≡ 0 = held-counter pattern s es x k in (omega arith, held-counter pattern s es (x - H x) k)
   begins Chain k x =
-      let b : Back s crypt skip es x (H x) = held-marks s crypt skip k es x in
-      (b .low, held-chain crypt skip s es (x - H x) k ∙ b .start)
+      let b : Back s pattern es x (H x) = held-marks s pattern k es x in
+      (b .low, held-chain pattern s es (x - H x) k ∙ b .start)
 
-  pub piece-asks : Pattern s crypt skip → end ≤ total es → (u : ℕ) → count (take (p - H p) (mask s crypt skip es)) % 16 ≡ u
-      → SampleAsks s crypt skip es (p - H p) (length (take due all)) u
-  piece-asks pattern l u r =
+  pub piece-asks : isCiphered s pattern 16 0 ≡ true → end ≤ total es → (u : ℕ) → count (take (p - H p) (mask s pattern es)) % 16 ≡ u
+      → SampleAsks s pattern es (p - H p) (length (take due all)) u
+  piece-asks first l u r =
       let a = begins (modeOf s) refl p in
       let b = begins (modeOf s) refl end in
       let e : p - H p + length (take due all) ≡ end - H end = rw size-due (omega (arith, a .0, b .0, size-all, held-few)) in
-      record { pattern = pattern; within = omega arith; from = a .1; to = rw e (b .1); rank = r }
+      record { first = first; within = omega arith; from = a .1; to = rw e (b .1); rank = r }
 
 -- fewer bytes are held than a block has
-pub held-small : (crypt skip : ℕ) (s : Scheme) (es : List Entry) (x : ℕ) → heldAt crypt skip es s x ≤ 15
-held-small crypt skip s es x = go (modeOf s) refl
+pub held-small : (pattern : Pattern) (s : Scheme) (es : List Entry) (x : ℕ) → heldAt pattern es s x ≤ 15
+held-small pattern s es x = go (modeOf s) refl
   where
-    go : (f : Mode) → modeOf s ≡ f → heldAt crypt skip es s x ≤ 15
-    go Counter k = omega (arith, held-counter crypt skip s es x k)
-    go Chain k = held-marks s crypt skip k es x .few
+    go : (f : Mode) → modeOf s ≡ f → heldAt pattern es s x ≤ 15
+    go Counter k = omega (arith, held-counter pattern s es x k)
+    go Chain k = held-marks s pattern k es x .few
 
 -- and none that came after the position
-pub held-low : (crypt skip : ℕ) (s : Scheme) (es : List Entry) (x : ℕ) → heldAt crypt skip es s x ≤ x
-held-low crypt skip s es x = go (modeOf s) refl
+pub held-low : (pattern : Pattern) (s : Scheme) (es : List Entry) (x : ℕ) → heldAt pattern es s x ≤ x
+held-low pattern s es x = go (modeOf s) refl
   where
-    go : (f : Mode) → modeOf s ≡ f → heldAt crypt skip es s x ≤ x
-    go Counter k = omega (arith, held-counter crypt skip s es x k)
-    go Chain k = held-marks s crypt skip k es x .low
+    go : (f : Mode) → modeOf s ≡ f → heldAt pattern es s x ≤ x
+    go Counter k = omega (arith, held-counter pattern s es x k)
+    go Chain k = held-marks s pattern k es x .low

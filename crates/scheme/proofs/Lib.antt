@@ -3,7 +3,6 @@ pub mod Agreement
 pub mod Positions
 pub mod Demand
 pub mod Passes
-pub mod Walk
 pub mod Holding
 pub mod Runs
 pub mod Ranges

@@ -15,23 +15,12 @@ use Rattle.modes_spec.proofs.Counter.{no-step}
 use Rattle.modes_spec.proofs.Chained.{cbc-step, end-step, cbc-rest, end-rest}
 use Rattle.scheme.proofs.Pieces.{Sized, count-marked}
 use Rattle.scheme.proofs.Agreement.{next-block, drop-head, drop-tail, drop-part, block-feed}
-use Rattle.scheme.specs.Machine.{free}
+use Rattle.scheme.specs.Machine.{free, State, plain, counted, cipheredStep, step, feed}
+use Rattle.scheme.specs.Walk.{left, Passes}
 use Rattle.scheme.proofs.Positions.{count-append}
 use Rattle.scheme.specs.Layout.{count}
-use Rattle.scheme.specs.Machine.{State, Stepped, Mode, Counter, Chain, plain, counted, ciphered, step, feed}
-
--- the state and the bytes that a part leaves
-abbrev pub left : ℕ → List ℕ → List ℕ → Stepped
-left p c ys = record { state = free p c; released = ys }
-
--- u of the counter's bytes are used before the part, and u′ after it; c and c′ are the counter or chain block before and after it
-pub record Passes (E D : Cipher) (d : Direction) (k : Mode) (iv : List ℕ) (ms fs : List Bool) (u : ℕ) (c xs : List ℕ) (u′ : ℕ)
-    (c′ ys : List ℕ) : Type 0 where
-  pub marked : length ms ≡ length xs
-  pub anewed : length fs ≡ length xs
-  pub rank : u′ ≡ (u + count ms) % 16
-  pub fed : (M F : List Bool) (p : ℕ) (ns gs : List Bool) → drop p M ≡ ms ++ ns → drop p F ≡ fs ++ gs → count (take p M) % 16 ≡ u
-      → feed E D d k iv M F (free p c) xs ≡ left (p + length xs) c′ ys
+use Rattle.scheme.specs.declared.Mode.{Mode}
+use Rattle.scheme.specs.declared.Mode.the-variants.{Counter, Chain}
 
 -- how many are marked before the part's end
 pub count-part : (M : List Bool) (p n : ℕ) (ms ns : List Bool) → length ms ≡ n → drop p M ≡ ms ++ ns
@@ -116,7 +105,7 @@ module _ (E D : Cipher) (d : Direction) (iv : List ℕ) (c : List ℕ) (long : 8
       → count (take p M) % 16 ≡ j % 16
       → feed E D d Counter iv M F (free p (counterAt c (j / 16))) xs
       ≡ left (p + length xs) (counterAt c ((j + length xs) / 16)) (ctr E c j xs)
-  unfolding feed step ciphered counted ctr streamByte
+  unfolding feed step cipheredStep counted ctr streamByte
   ctr-feed M F p j [] ns e h = rw (add-zero, add-zero)
   ctr-feed M F p j (x ∷ xs) ns e h =
       let t : drop p M ≡ true ∷ (replicate (length xs) true ++ ns) = e in

@@ -12,7 +12,9 @@ use Rattle.modes_spec.specs.declared.Direction.{Direction}
 use Rattle.modes_spec.specs.declared.Direction.the-variants.{Lock, Open}
 use Rattle.modes_spec.specs.Modes.{Cipher, xors, blockOut}
 use Rattle.scheme.specs.Layout.{count}
-use Rattle.scheme.specs.Machine.{State, Stepped, Mode, Counter, Chain, chainAt, plain, counted, chained, ciphered, step, feed}
+use Rattle.scheme.specs.declared.Mode.{Mode}
+use Rattle.scheme.specs.declared.Mode.the-variants.{Counter, Chain}
+use Rattle.scheme.specs.Machine.{State, Stepped, chainAt, plain, counted, chained, cipheredStep, step, feed}
 
 -- what holds of both holds of the one picked
 pub cond-law {ℓ} : {X : Type ℓ} (P : X → Type 0) (b : Bool) {x y : X} → (b ≡ true → P x) → (b ≡ false → P y) → P (cond b x y)
@@ -85,11 +87,11 @@ module _ (E D : Cipher) (d : Direction) (k : Mode) (iv : List ℕ) (M F : List B
 
   -- what a step does to the position
   pub step-position : (t : State) (b : ℕ) → step E D d k iv M F t b .state .position ≡ suc (t .position)
-  unfolding step plain ciphered counted chained
+  unfolding step plain cipheredStep counted chained
   step-position t b =
       cond-law (λ (s : Stepped). s .state .position ≡ suc (t .position)) (getD M (t .position) false) (λ e. go k) (λ e. refl)
     where
-      go : (k : Mode) → ciphered E D d k iv M F k t b .state .position ≡ suc (t .position)
+      go : (k : Mode) → cipheredStep E D d k iv M F k t b .state .position ≡ suc (t .position)
       go Counter = refl
       go Chain =
           cond-law (λ (s : Stepped). s .state .position ≡ suc (t .position)) (eqb (length (t .held)) 15) (λ e. refl) (λ e. refl)
@@ -115,8 +117,8 @@ pub record Added (k : Mode) (M : List Bool) (n : ℕ) (s : Stepped) : Type 0 whe
 
 module _ (E D : Cipher) (sE : Sized E) (sD : Sized D) (d : Direction) (iv : List ℕ) (M F : List Bool) where
   ciphered-adds : (k : Mode) (t : State) (b : ℕ) → getD M (t .position) false ≡ true → Sound k M t
-      → Added k M (suc (length (t .held))) (ciphered E D d k iv M F k t b)
-  unfolding ciphered counted chained heldAfter count
+      → Added k M (suc (length (t .held))) (cipheredStep E D d k iv M F k t b)
+  unfolding cipheredStep counted chained heldAfter count
   ciphered-adds Counter t b e h = record { sum = omega arith; sound = h }
   ciphered-adds Chain t b e h =
       cond-law (Added Chain M (suc (length (t .held)))) (eqb (length (t .held)) 15)

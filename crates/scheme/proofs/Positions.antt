@@ -9,10 +9,10 @@ use lib.Dec.{ltb}
 use lib.ListN.{length, getD, take, replicate, length-replicate, getD-replicate, List·getD-append}
 use lib.Seq.{getD-append-add, take-append-le, take-append-add, take-all, take-nil}
 use borrow.Author.Tests.{ltb-true, ltb-false, le-ltb}
+use Rattle.scheme.specs.declared.Pattern.{Pattern}
 use Rattle.scheme.specs.declared.Scheme.{Scheme}
 use Rattle.scheme.specs.declared.Scheme.the-variants.{Cenc, Cbc1, Cens, Cbcs}
-use Rattle.scheme.specs.Layout.{Entry, inWholeBlock, inCryptRun, tabulate, isCiphered, rangeMarks, marks, mask}
-use Rattle.scheme.specs.Layout.{count}
+use Rattle.scheme.specs.Layout.{period, Entry, inWholeBlock, inCryptRun, tabulate, isCiphered, rangeMarks, marks, mask, count}
 use Rattle.scheme.specs.Held.{Place, Clear, Inside, place, inPlace, inBlock}
 use Rattle.scheme.proofs.Pieces.{cond-law}
 use Rattle.scheme.proofs.Agreement.{byBlock, length-range, tabulate-block, tabulate-last}
@@ -174,14 +174,14 @@ module _ (G : ℕ → ℕ → Bool) (last : (n : ℕ) → G n (n / 16) ≡ false
       s ∙ rank-at es (x - a - b)))
 
 -- in the schemes that cipher whole blocks: how many ciphered bytes before position x lie in the block there
-module _ (crypt skip : ℕ) where
+module _ (pattern : Pattern) where
   past : (n : ℕ) → ltb (n / 16) (n / 16) ≡ false
   past n = le-ltb (n / 16) (n / 16) (omega arith)
 
   pub rank-block : (s : Scheme) → (s ≡ Cenc → ⊥) → (es : List Entry) (x : ℕ)
-      → count (take x (mask s crypt skip es)) % 16 ≡ inBlock crypt skip s (place es x)
+      → count (take x (mask s pattern es)) % 16 ≡ inBlock pattern s (place es x)
   unfolding mask inBlock isCiphered inWholeBlock inCryptRun
   rank-block Cenc h es x = absurd (h refl)
   rank-block Cbc1 h es x = rank-at (λ (n k : ℕ). ltb k (n / 16)) past es x
-  rank-block Cens h es x = rank-at (λ (n k : ℕ). ltb k (n / 16) && ltb (k % (crypt + skip)) crypt) (λ n. rw past) es x
-  rank-block Cbcs h es x = rank-at (λ (n k : ℕ). ltb k (n / 16) && ltb (k % (crypt + skip)) crypt) (λ n. rw past) es x
+  rank-block Cens h es x = rank-at (λ (n k : ℕ). ltb k (n / 16) && ltb (k % (period pattern)) (pattern .crypt)) (λ n. rw past) es x
+  rank-block Cbcs h es x = rank-at (λ (n k : ℕ). ltb k (n / 16) && ltb (k % (period pattern)) (pattern .crypt)) (λ n. rw past) es x

@@ -11,15 +11,18 @@ use lib.Seq.{take-length, ext-getD, getD-take, getD-drop, drop-drop, take-add, l
 use borrow.Author.Tests.{ne-eqb, ltb-true, ltb-false}
 use borrow.Rule.Slice.PartMut.{putMid}
 use Rattle.modes_spec.specs.declared.Direction.{Direction}
+use Rattle.scheme.specs.declared.Pattern.{Pattern}
 use Rattle.scheme.specs.declared.Scheme.{Scheme}
 use Rattle.scheme.specs.declared.Scheme.the-variants.{Cenc, Cbc1, Cens, Cbcs}
 use Rattle.scheme.specs.Layout.{isCiphered, restarts, rangeMarks}
 use Rattle.modes_spec.specs.Modes.{Cipher}
 use Rattle.scheme.proofs.Agreement.{length-range}
 use Rattle.scheme.proofs.Positions.{getD-range}
-use Rattle.scheme.specs.Machine.{Mode, Counter, Chain, modeOf}
-use Rattle.scheme.proofs.Passes.{Passes, passes-none, passes-join, passes-clear}
-use Rattle.scheme.proofs.Walk.{RestartsAt, Blocks, Free, RunAt, RangeAsks, RangeSays}
+use Rattle.scheme.specs.declared.Mode.{Mode}
+use Rattle.scheme.specs.declared.Mode.the-variants.{Counter, Chain}
+use Rattle.scheme.specs.Machine.{modeOf}
+use Rattle.scheme.proofs.Passes.{passes-none, passes-join, passes-clear}
+use Rattle.scheme.specs.Walk.{Passes, RestartsAt, Blocks, Free, RunAt, RangeAsks, RangeSays}
 use Rattle.octets.proofs.Fill.{Filled, fill-none, fill-length, fill-all, fill-drop, fill-part, fill-keep}
 
 -- ---- the marks that a run meets
@@ -76,18 +79,18 @@ module _ (s : Scheme) (n o m : ℕ) (within : o + m ≤ n) where
 
 -- ---- the walk
 
-module _ (E D : Cipher) (d : Direction) (s : Scheme) (crypt skip : ℕ) (iv : List ℕ) (n o u : ℕ) (c xs : List ℕ) where
+module _ (E D : Cipher) (d : Direction) (s : Scheme) (pattern : Pattern) (iv : List ℕ) (n o u : ℕ) (c xs : List ℕ) where
   -- i bytes of the part are done
   pub record Ranged (ys b : List ℕ) (v i : ℕ) : Type 0 where
     pub done : List ℕ
     pub filled : Filled xs ys done i
-    pub passes : Passes E D d (modeOf s) iv (take i (drop o (rangeMarks (isCiphered s crypt skip) n)))
+    pub passes : Passes E D d (modeOf s) iv (take i (drop o (rangeMarks (isCiphered s pattern) n)))
         (take i (drop o (rangeMarks (restarts s) n))) u c (take i xs) v b done
     pub used : v < 16
     pub unused : modeOf s ≡ Chain → v ≡ 0
-    pub free : Free s crypt skip n (o + i)
+    pub free : Free s pattern n (o + i)
 
-  module _ (a : RangeAsks s crypt skip n o (length xs) u) where
+  module _ (a : RangeAsks s pattern n o (length xs) u) where
     pub range-start : Ranged xs c u 0
     range-start =
         record {
@@ -101,20 +104,20 @@ module _ (E D : Cipher) (d : Direction) (s : Scheme) (crypt skip : ℕ) (iv : Li
         }
 
     module _ {ys b : List ℕ} {v i : ℕ} (r : Ranged ys b v i) (l : i < length xs) {t : Bool} {e : ℕ}
-        (run : RunAt s crypt skip n (o + i) t e) (m : ℕ) (em : m ≡ min (e - (o + i)) (length ys - i)) where
+        (run : RunAt s pattern n (o + i) t e) (m : ℕ) (em : m ≡ min (e - (o + i)) (length ys - i)) where
       size : length ys ≡ length xs
       size = fill-length (r .filled)
 
       within : o + i + m ≤ n
       within = omega (arith, size, a .within)
 
-      marks : take m (drop (o + i) (rangeMarks (isCiphered s crypt skip) n)) ≡ replicate m t
-      marks = run-marks (isCiphered s crypt skip) n (o + i) m within t (λ x h k. run .same x h (omega arith))
+      marks : take m (drop (o + i) (rangeMarks (isCiphered s pattern) n)) ≡ replicate m t
+      marks = run-marks (isCiphered s pattern) n (o + i) m within t (λ x h k. run .same x h (omega arith))
 
-      free-next : Free s crypt skip n (o + (i + m))
+      free-next : Free s pattern n (o + (i + m))
       free-next k = go (ltb (o + (i + m)) e) refl
         where
-          go : (q : Bool) → ltb (o + (i + m)) e ≡ q → isCiphered s crypt skip n (o + (i + m)) ≡ true → (o + (i + m)) % 16 ≡ 0
+          go : (q : Bool) → ltb (o + (i + m)) e ≡ q → isCiphered s pattern n (o + (i + m)) ≡ true → (o + (i + m)) % 16 ≡ 0
           go true p = let j : o + (i + m) ≡ o + length xs = omega (arith, size, ltb-true (o + (i + m)) e p) in rw j (a .to k)
           go false p = let j : o + (i + m) ≡ e = omega (arith, run .past, ltb-false (o + (i + m)) e p) in rw j (run .freed k)
 
@@ -143,12 +146,12 @@ module _ (E D : Cipher) (d : Direction) (s : Scheme) (crypt skip : ℕ) (iv : Li
 
       join-turns : (v′ : ℕ) (b′ z : List ℕ)
           → Passes E D d (modeOf s) iv (replicate m t) (take m (drop (o + i) (rangeMarks (restarts s) n))) v b w v′ b′ z
-          → Passes E D d (modeOf s) iv (take (i + m) (drop o (rangeMarks (isCiphered s crypt skip) n)))
+          → Passes E D d (modeOf s) iv (take (i + m) (drop o (rangeMarks (isCiphered s pattern) n)))
           (take (i + m) (drop o (rangeMarks (restarts s) n))) u c (take (i + m) xs) v′ b′ (r .done ++ z)
       join-turns v′ b′ z j =
           rw (
-            take-add i m (drop o (rangeMarks (isCiphered s crypt skip) n)),
-            drop-drop i o (rangeMarks (isCiphered s crypt skip) n),
+            take-add i m (drop o (rangeMarks (isCiphered s pattern) n)),
+            drop-drop i o (rangeMarks (isCiphered s pattern) n),
             marks,
             take-add i m (drop o (rangeMarks (restarts s) n)),
             drop-drop i o (rangeMarks (restarts s) n),
@@ -193,7 +196,7 @@ module _ (E D : Cipher) (d : Direction) (s : Scheme) (crypt skip : ℕ) (iv : Li
           }
 
     pub range-end : {ys b : List ℕ} {v i : ℕ} → Ranged ys b v i → length xs ≤ i
-        → RangeSays E D d s crypt skip iv n o u c xs v b ys
+        → RangeSays E D d s pattern iv n o u c xs v b ys
     range-end {i = i} r l =
         let e : i ≡ length xs = omega (arith, r .filled .fits) in
         record { passes = rw (fill-all (r .filled) l) (rw (e, take-length xs) at (r .passes)); unused = r .unused }

@@ -12,30 +12,30 @@ use lib.Seq.{drop-drop, take-add, length-take-le, drop-append-le, take-append-le
 use borrow.Author.Tests.{ltb-true, ltb-false, le-ltb}
 use borrow.Rule.Slice.PartMut.{putMid}
 use Rattle.modes_spec.specs.declared.Direction.{Direction}
+use Rattle.scheme.specs.declared.Pattern.{Pattern}
 use Rattle.scheme.specs.declared.Scheme.{Scheme}
 use Rattle.scheme.specs.declared.Scheme.the-variants.{Cenc, Cbc1, Cens, Cbcs}
-use Rattle.scheme.specs.Layout.{Entry, entry, entries, total, inWholeBlock, isCiphered, restarts, rangeMarks, marks, mask, restartMask}
+use Rattle.scheme.specs.Layout.{Entry, entry, entries, total, inWholeBlock, isCiphered, restarts, rangeMarks, marks, mask, restartMask, count}
 use Rattle.modes_spec.specs.Modes.{Cipher}
 use Rattle.scheme.proofs.Agreement.{length-range}
 use Rattle.scheme.proofs.Pieces.{cond-law, heldAfter}
-use Rattle.scheme.specs.Held.{Place, place, inPlace, inBlock}
+use Rattle.scheme.specs.Held.{Place, place, inPlace, inBlock, heldAt}
 use Rattle.scheme.proofs.Positions.{place-law}
-use Rattle.scheme.specs.Held.{heldAt}
 use Rattle.scheme.proofs.Demand.{heldAt-is}
-use Rattle.scheme.specs.Layout.{count}
-use Rattle.scheme.specs.Machine.{Chain, modeOf, feedSample}
-use Rattle.scheme.proofs.Passes.{Passes, passes-none, passes-join, count-part}
-use Rattle.scheme.proofs.Walk.{Free, Pattern, entryMarks, EntryAsks, EntrySays, SampleAsks, SampleSays}
+use Rattle.scheme.specs.declared.Mode.the-variants.{Chain}
+use Rattle.scheme.specs.Machine.{modeOf, feedSample}
+use Rattle.scheme.proofs.Passes.{passes-none, passes-join, count-part}
+use Rattle.scheme.specs.Walk.{Passes, Free, entryMarks, EntryAsks, EntrySays, SampleAsks, SampleSays}
 use Rattle.octets.proofs.Fill.{Filled, fill-none, fill-length, fill-all, fill-drop, fill-part}
 use Rattle.scheme.proofs.Runs.{apart}
 
 -- ---- where nothing is held
 
-module _ (crypt skip : ℕ) where
+module _ (pattern : Pattern) where
   abbrev Held : Scheme → Place → ℕ
-  Held s p = inBlock crypt skip s p
+  Held s p = inBlock pattern s p
 
-  held-chain : (s : Scheme) (es : List Entry) (x : ℕ) → modeOf s ≡ Chain → heldAt crypt skip es s x ≡ Held s (place es x)
+  held-chain : (s : Scheme) (es : List Entry) (x : ℕ) → modeOf s ≡ Chain → heldAt pattern es s x ≡ Held s (place es x)
   unfolding heldAt modeOf
   held-chain Cenc es x e = apart e
   held-chain Cbc1 es x e = refl
@@ -58,22 +58,22 @@ module _ (crypt skip : ℕ) where
       place-law (λ (p : Place). Held s p ≡ 0) e es 0 (λ u. refl)
       (λ u v.
       let z : 0 - e .clear ≡ 0 = omega arith in
-      rw z (cond-law (λ (y : ℕ). y ≡ 0) (isCiphered s crypt skip (e .protected) 0) (λ q. refl) (λ q. refl)))
+      rw z (cond-law (λ (y : ℕ). y ≡ 0) (isCiphered s pattern (e .protected) 0) (λ q. refl) (λ q. refl)))
       (λ u v. let z : 0 - e .clear - e .protected ≡ 0 = omega arith in rw z (held-start s es))
 
   -- within the entry
   held-free : (s : Scheme) (a n : ℕ) (es : List Entry) (x : ℕ) → x < a + n
-      → Held s (place ((record { clear = a; protected = n }) ∷ es) x) ≡ 0 → isCiphered s crypt skip n (x - a) ≡ true
+      → Held s (place ((record { clear = a; protected = n }) ∷ es) x) ≡ 0 → isCiphered s pattern n (x - a) ≡ true
       → (x - a) % 16 ≡ 0
   unfolding inBlock inPlace
   held-free s a n es x l =
-      place-law (λ (p : Place). Held s p ≡ 0 → isCiphered s crypt skip n (x - a) ≡ true → (x - a) % 16 ≡ 0)
+      place-law (λ (p : Place). Held s p ≡ 0 → isCiphered s pattern n (x - a) ≡ true → (x - a) % 16 ≡ 0)
       (record { clear = a; protected = n }) es x (λ u h e. omega arith)
       (λ u v h e. rw e at h)
       (λ u v. absurd (omega arith))
 
   -- at the range's end
-  free-end : (s : Scheme) (n : ℕ) → Free s crypt skip n n
+  free-end : (s : Scheme) (n : ℕ) → Free s pattern n n
   unfolding modeOf isCiphered inWholeBlock
   free-end Cenc n k e = apart k
   free-end Cbc1 n k e = absurd (let z : _≡_ {A = ℕ} 0 1 = cc (le-ltb (n / 16) (n / 16) (omega arith)) in omega arith)
@@ -107,42 +107,42 @@ no-more (c ∷ cs) (p ∷ ps) (suc n) (suc k) l = no-more cs ps n k (omega arith
 
 -- ---- the walk
 
-module _ (s : Scheme) (crypt skip : ℕ) (es : List Entry) where
+module _ (s : Scheme) (pattern : Pattern) (es : List Entry) where
   -- where the part's rest begins: at offset o of entry k, of m bytes
   pub record Rest (x m k o : ℕ) : Type 0 where
     pub marked : (f : ℕ → ℕ → Bool) → drop x (marks f es) ≡ drop o (marks f (drop k es))
     pub room : o + m ≤ total (drop k es)
-    pub from : modeOf s ≡ Chain → Held crypt skip s (place (drop k es) o) ≡ 0
-    pub to : modeOf s ≡ Chain → Held crypt skip s (place (drop k es) (o + m)) ≡ 0
+    pub from : modeOf s ≡ Chain → Held pattern s (place (drop k es) o) ≡ 0
+    pub to : modeOf s ≡ Chain → Held pattern s (place (drop k es) (o + m)) ≡ 0
 
-module _ (E D : Cipher) (d : Direction) (s : Scheme) (crypt skip : ℕ) (iv : List ℕ) (es : List Entry) (x u : ℕ)
+module _ (E D : Cipher) (d : Direction) (s : Scheme) (pattern : Pattern) (iv : List ℕ) (es : List Entry) (x u : ℕ)
     (c xs : List ℕ) where
   pub record Walked (ys b : List ℕ) (v i k o : ℕ) : Type 0 where
     pub done : List ℕ
     pub filled : Filled xs ys done i
-    pub passes : Passes E D d (modeOf s) iv (take i (drop x (mask s crypt skip es))) (take i (drop x (restartMask s es))) u c
+    pub passes : Passes E D d (modeOf s) iv (take i (drop x (mask s pattern es))) (take i (drop x (restartMask s es))) u c
         (take i xs) v b done
     pub used : v < 16
     pub unused : modeOf s ≡ Chain → v ≡ 0
-    pub rest : i < length xs → Rest s crypt skip es (x + i) (length xs - i) k o
+    pub rest : i < length xs → Rest s pattern es (x + i) (length xs - i) k o
 
-  module _ (a : SampleAsks s crypt skip es x (length xs) u) where
+  module _ (a : SampleAsks s pattern es x (length xs) u) where
     below : u < 16
     below = omega (arith, a .rank)
 
     none-used : modeOf s ≡ Chain → u ≡ 0
     unfolding heldAfter
-    none-used k = sym (a .rank) ∙ (rw k at (heldAt-is crypt skip es s x)) ∙ a .from
+    none-used k = sym (a .rank) ∙ (rw k at (heldAt-is pattern es s x)) ∙ a .from
 
-    first : Rest s crypt skip es (x + 0) (length xs - 0) 0 x
+    first : Rest s pattern es (x + 0) (length xs - 0) 0 x
     first =
         let m : length xs - 0 ≡ length xs = omega arith in
         rw (add-zero, m)
         (record {
           marked = λ f. refl;
           room = a .within;
-          from = λ k. sym (held-chain crypt skip s es x k) ∙ a .from;
-          to = λ k. sym (held-chain crypt skip s es (x + length xs) k) ∙ a .to;
+          from = λ k. sym (held-chain pattern s es x k) ∙ a .from;
+          to = λ k. sym (held-chain pattern s es (x + length xs) k) ∙ a .to;
         })
 
     pub walk-start : Walked xs c u 0 0 x
@@ -157,11 +157,11 @@ module _ (E D : Cipher) (d : Direction) (s : Scheme) (crypt skip : ℕ) (iv : Li
         }
 
     pub walk-end : {ys b : List ℕ} {v i k o : ℕ} → Walked ys b v i k o → length xs ≤ i
-        → SampleSays E D d s crypt skip iv es x c xs v b ys
+        → SampleSays E D d s pattern iv es x c xs v b ys
     unfolding feedSample
     walk-end {ys} {b} {v} {i} w l =
         let e : i ≡ length xs = omega (arith, w .filled .fits) in
-        let M : List Bool = mask s crypt skip es in
+        let M : List Bool = mask s pattern es in
         let F : List Bool = restartMask s es in
         let t : Passes E D d (modeOf s) iv (take (length xs) (drop x M)) (take (length xs) (drop x F)) u c xs v b ys =
         rw (fill-all (w .filled) l) (rw (e, take-length xs) at (w .passes)) in
@@ -183,7 +183,7 @@ module _ (E D : Cipher) (d : Direction) (s : Scheme) (crypt skip : ℕ) (iv : Li
       size : length ys ≡ length xs
       size = fill-length (w .filled)
 
-      r : Rest s crypt skip es (x + i) (length xs - i) k o
+      r : Rest s pattern es (x + i) (length xs - i) k o
       r = w .rest l
 
       entry-length : (f : ℕ → ℕ → Bool) → length (entryMarks f p n) ≡ p + n
@@ -198,10 +198,10 @@ module _ (E D : Cipher) (d : Direction) (s : Scheme) (crypt skip : ℕ) (iv : Li
       unfolding total
       room = rw here at (r .room)
 
-      from : modeOf s ≡ Chain → Held crypt skip s (place ((record { clear = p; protected = n }) ∷ next) o) ≡ 0
+      from : modeOf s ≡ Chain → Held pattern s (place ((record { clear = p; protected = n }) ∷ next) o) ≡ 0
       from h = rw here at (r .from h)
 
-      to : modeOf s ≡ Chain → Held crypt skip s (place ((record { clear = p; protected = n }) ∷ next) (o + (length xs - i))) ≡ 0
+      to : modeOf s ≡ Chain → Held pattern s (place ((record { clear = p; protected = n }) ∷ next) (o + (length xs - i))) ≡ 0
       to h = rw here at (r .to h)
 
       -- the entry ends before the part's rest begins
@@ -221,7 +221,7 @@ module _ (E D : Cipher) (d : Direction) (s : Scheme) (crypt skip : ℕ) (iv : Li
                   ∙ drop-append-add (entryMarks f p n) (marks f next) (o - (p + n));
               room = omega (arith, room);
               from = λ h. rw place-next at (from h);
-              to = λ h. rw (place-next crypt skip p n next (o + (length xs - i)) (omega arith), j) at (to h);
+              to = λ h. rw (place-next pattern p n next (o + (length xs - i)) (omega arith), j) at (to h);
             };
           }
 
@@ -238,26 +238,26 @@ module _ (E D : Cipher) (d : Direction) (s : Scheme) (crypt skip : ℕ) (iv : Li
         sub-length : length sub ≡ m
         sub-length = ap length sub-is ∙ length-take-le m (drop i xs) (simp length-drop (omega (arith, size)))
 
-        stop-free : Free s crypt skip n (o + m - p)
+        stop-free : Free s pattern n (o + m - p)
         stop-free h = go (ltb (o + m) (p + n)) refl
           where
-            go : (q : Bool) → ltb (o + m) (p + n) ≡ q → isCiphered s crypt skip n (o + m - p) ≡ true → (o + m - p) % 16 ≡ 0
+            go : (q : Bool) → ltb (o + m) (p + n) ≡ q → isCiphered s pattern n (o + m - p) ≡ true → (o + m - p) % 16 ≡ 0
             go true q =
                 let t : o + m < p + n = ltb-true (o + m) (p + n) q in
                 let y : o + (length xs - i) ≡ o + m = omega (arith, size) in
-                held-free crypt skip s p n next (o + m) t (rw y at (to h))
-            go false q = let y : o + m - p ≡ n = omega (arith, ltb-false (o + m) (p + n) q) in rw y (free-end crypt skip s n h)
+                held-free pattern s p n next (o + m) t (rw y at (to h))
+            go false q = let y : o + m - p ≡ n = omega (arith, ltb-false (o + m) (p + n) q) in rw y (free-end pattern s n h)
 
-        pub walk-asks : n < 2 ^ 32 → EntryAsks s crypt skip p n o (length sub) v
+        pub walk-asks : n < 2 ^ 32 → EntryAsks s pattern p n o (length sub) v
         walk-asks small =
             rw sub-length
             (record {
-              pattern = a .pattern;
+              first = a .first;
               small = small;
               within = omega arith;
               used = w .used;
               unused = w .unused;
-              from = λ h. held-free crypt skip s p n next o inside (from h);
+              from = λ h. held-free pattern s p n next o inside (from h);
               to = stop-free;
             })
 
@@ -271,7 +271,7 @@ module _ (E D : Cipher) (d : Direction) (s : Scheme) (crypt skip : ℕ) (iv : Li
         all-marks f = rw (take-add i m (drop x (marks f es)), drop-drop i x (marks f es), part-marks f)
 
         -- what is left lies in the entries that follow
-        walk-rest : i + m < length xs → Rest s crypt skip es (x + (i + m)) (length xs - (i + m)) (k + 1) 0
+        walk-rest : i + m < length xs → Rest s pattern es (x + (i + m)) (length xs - (i + m)) (k + 1) 0
         walk-rest t =
             let y : o + m ≡ p + n = omega (arith, size) in
             let z : x + (i + m) ≡ x + i + m = omega arith in
@@ -286,22 +286,22 @@ module _ (E D : Cipher) (d : Direction) (s : Scheme) (crypt skip : ℕ) (iv : Li
               )
                   (drop-at (entryMarks f p n) (marks f next) (p + n) (entry-length f));
               room = omega (arith, room);
-              from = λ h. held-start crypt skip s next;
-              to = λ h. rw (place-next crypt skip p n next (o + (length xs - i)) (omega arith), j) at (to h);
+              from = λ h. held-start pattern s next;
+              to = λ h. rw (place-next pattern p n next (o + (length xs - i)) (omega arith), j) at (to h);
             }
 
-        pub walk-turned : (v′ : ℕ) (b′ z : List ℕ) → length z ≡ length sub → EntrySays E D d s crypt skip iv p n o v b sub v′ b′ z
+        pub walk-turned : (v′ : ℕ) (b′ z : List ℕ) → length z ≡ length sub → EntrySays E D d s pattern iv p n o v b sub v′ b′ z
             → Walked (putMid i (i + m - i) ys z) b′ v′ (i + m) (k + 1) 0
         unfolding mask restartMask
         walk-turned v′ b′ z nz says =
-            let t : Passes E D d (modeOf s) iv (take m (drop o (entryMarks (isCiphered s crypt skip) p n)))
+            let t : Passes E D d (modeOf s) iv (take m (drop o (entryMarks (isCiphered s pattern) p n)))
             (take m (drop o (entryMarks (restarts s) p n))) v b (take m (drop i xs)) v′ b′ z =
             rw sub-is at (rw sub-length at (says .passes)) in
             record {
               done = w .done ++ z;
               filled = fill-part (w .filled) (i + m) (omega arith) (omega (arith, size)) z (w .done ++ z)
                   (nz ∙ sub-length ∙ sym width) refl;
-              passes = rw (all-marks (isCiphered s crypt skip), all-marks (restarts s), take-add i m xs)
+              passes = rw (all-marks (isCiphered s pattern), all-marks (restarts s), take-add i m xs)
                   (passes-join (w .passes) t);
               used = says .used;
               unused = says .unused;
@@ -309,7 +309,7 @@ module _ (E D : Cipher) (d : Direction) (s : Scheme) (crypt skip : ℕ) (iv : Li
             }
 
 -- the walk goes on only where there is an entry left
-pub walk-entry : {s : Scheme} {crypt skip x m k o : ℕ} (cs ps : List ℕ) (n : ℕ) → Rest s crypt skip (entries cs ps n) x m k o
+pub walk-entry : {s : Scheme} {pattern : Pattern} {x m k o : ℕ} (cs ps : List ℕ) (n : ℕ) → Rest s pattern (entries cs ps n) x m k o
     → 1 ≤ m → k < n
 unfolding total
 walk-entry {k = k} cs ps n r l = go (ltb k n) refl
@@ -321,30 +321,30 @@ walk-entry {k = k} cs ps n r l = go (ltb k n) refl
 
 -- ---- a whole sample
 
-module _ (crypt skip : ℕ) where
-  held-end : (s : Scheme) (es : List Entry) → Held crypt skip s (place es (total es)) ≡ 0
+module _ (pattern : Pattern) where
+  held-end : (s : Scheme) (es : List Entry) → Held pattern s (place es (total es)) ≡ 0
   unfolding inBlock inPlace place total
   held-end s [] = refl
   held-end s (e ∷ es) =
       let j : e .clear + (e .protected + total es) - (e .clear + e .protected) ≡ total es = omega arith in
-      rw (place-next crypt skip (e .clear) (e .protected) es (e .clear + (e .protected + total es)) (omega arith), j)
+      rw (place-next pattern (e .clear) (e .protected) es (e .clear + (e .protected + total es)) (omega arith), j)
       (held-end s es)
 
-  held-no : (s : Scheme) (es : List Entry) (x : ℕ) → Held crypt skip s (place es x) ≡ 0 → heldAt crypt skip es s x ≡ 0
+  held-no : (s : Scheme) (es : List Entry) (x : ℕ) → Held pattern s (place es x) ≡ 0 → heldAt pattern es s x ≡ 0
   unfolding heldAt
   held-no Cenc es x h = refl
   held-no Cbc1 es x h = h
   held-no Cens es x h = refl
   held-no Cbcs es x h = h
 
-  pub whole-asks : (s : Scheme) (es : List Entry) (m : ℕ) → Pattern s crypt skip → m ≡ total es → SampleAsks s crypt skip es 0 m 0
+  pub whole-asks : (s : Scheme) (es : List Entry) (m : ℕ) → isCiphered s pattern 16 0 ≡ true → m ≡ total es → SampleAsks s pattern es 0 m 0
   unfolding count
   whole-asks s es m p l =
       let z : 0 + m ≡ total es = omega arith in
       record {
-        pattern = p;
+        first = p;
         within = omega arith;
-        from = held-no s es 0 (held-start crypt skip s es);
+        from = held-no s es 0 (held-start pattern s es);
         to = rw z (held-no s es (total es) (held-end s es));
         rank = refl;
       }

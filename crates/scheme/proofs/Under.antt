@@ -12,10 +12,13 @@ use Rattle.modes_spec.specs.declared.Direction.{Direction}
 use Rattle.modes_spec.specs.Modes.{Cipher}
 use Rattle.track_spec.specs.declared.Parameters.{Parameters}
 use Rattle.subsample_spec.specs.declared.SubsampleMap.{SubsampleMap}
+use Rattle.scheme.specs.declared.Pattern.{Pattern}
 use Rattle.scheme.specs.declared.Scheme.{Scheme}
 use Rattle.scheme.specs.declared.Scheme.the-variants.{Cenc, Cbc1, Cens, Cbcs}
-use Rattle.scheme.specs.Layout.{schemeOf, isCiphered, restarts, Entry, entry, total, mask, restartMask}
-use Rattle.scheme.specs.Machine.{State, Mode, Counter, Chain, modeOf, free, chainAt, plain, counted, chained, ciphered, step, feed, feedSample}
+use Rattle.scheme.specs.Layout.{patternOf, schemeOf, isCiphered, restarts, Entry, entry, total, mask, restartMask}
+use Rattle.scheme.specs.declared.Mode.{Mode}
+use Rattle.scheme.specs.declared.Mode.the-variants.{Counter, Chain}
+use Rattle.scheme.specs.Machine.{State, modeOf, free, chainAt, plain, counted, chained, cipheredStep, step, feed, feedSample}
 use Rattle.scheme.specs.Held.{Place, Clear, Inside, place, inPlace}
 use Rattle.scheme.specs.Part as part
 use Rattle.scheme.proofs.Pieces.{Sized}
@@ -31,7 +34,7 @@ module _ (E D : Cipher) (d : Direction) (v w : List ℕ) (M F : List Bool) (neve
   chain-never x c k = rw (never x)
 
   step-never : (k : Mode) (t : State) (b : ℕ) → step E D d k v M F t b ≡ step E D d k w M F t b
-  unfolding step ciphered counted chained plain
+  unfolding step cipheredStep counted chained plain
   step-never Counter t b = refl
   step-never Chain t b = rw (chain-never (t .position) (t .block) Chain)
 
@@ -54,21 +57,21 @@ module _ (es : List Entry) (x : ℕ) where
 -- the constant one.
 pub record Begins (p : Parameters) (iv : List ℕ) : Type 0 where
   pub bytes : Bytes 16 iv
-  pub first : p .protected ≡ 1 → isCiphered (schemeOf (p .code)) (p .crypt) (p .skip) 16 0 ≡ true
+  pub first : p .protected ≡ 1 → isCiphered (schemeOf (p .code)) (patternOf p) 16 0 ≡ true
   pub constant : p .protected ≡ 1 → schemeOf (p .code) ≡ Cbcs → p .«constant_iv» .0 ≡ iv
 
 -- in any scheme the machine goes as with the IV in place of the constant one
-module _ (E D : Cipher) (d : Direction) (crypt skip : ℕ) (v iv : List ℕ) (es : List Entry) (t : State) (xs : List ℕ) where
-  one-iv : (s : Scheme) → (s ≡ Cbcs → v ≡ iv) → feedSample E D d s crypt skip v es t xs ≡ feedSample E D d s crypt skip iv es t xs
+module _ (E D : Cipher) (d : Direction) (pattern : Pattern) (v iv : List ℕ) (es : List Entry) (t : State) (xs : List ℕ) where
+  one-iv : (s : Scheme) → (s ≡ Cbcs → v ≡ iv) → feedSample E D d s pattern v es t xs ≡ feedSample E D d s pattern iv es t xs
   unfolding feedSample restarts
   one-iv Cenc h =
-      feed-never E D d v iv (mask Cenc crypt skip es) (restartMask Cenc es) (λ x. never es x Cenc (λ n o. refl))
+      feed-never E D d v iv (mask Cenc pattern es) (restartMask Cenc es) (λ x. never es x Cenc (λ n o. refl))
       (modeOf Cenc) t xs
   one-iv Cbc1 h =
-      feed-never E D d v iv (mask Cbc1 crypt skip es) (restartMask Cbc1 es) (λ x. never es x Cbc1 (λ n o. refl))
+      feed-never E D d v iv (mask Cbc1 pattern es) (restartMask Cbc1 es) (λ x. never es x Cbc1 (λ n o. refl))
       (modeOf Cbc1) t xs
   one-iv Cens h =
-      feed-never E D d v iv (mask Cens crypt skip es) (restartMask Cens es) (λ x. never es x Cens (λ n o. refl))
+      feed-never E D d v iv (mask Cens pattern es) (restartMask Cens es) (λ x. never es x Cens (λ n o. refl))
       (modeOf Cens) t xs
   one-iv Cbcs h = rw (h refl)
 
@@ -81,16 +84,16 @@ module _ (E D : Cipher) (d : Direction) (p : Parameters) (m : SubsampleMap) (n :
   clear-fed x c h xs =
       rw e
       (feed-unmarked E D d (modeOf (schemeOf (p .code))) (p .«constant_iv» .0)
-      (mask (schemeOf (p .code)) (p .crypt) (p .skip) (entry n 0 ∷ []))
-      (restartMask (schemeOf (p .code)) (entry n 0 ∷ [])) (mask-clear (schemeOf (p .code)) (p .crypt) (p .skip) n) x c h xs)
+      (mask (schemeOf (p .code)) (patternOf p) (entry n 0 ∷ []))
+      (restartMask (schemeOf (p .code)) (entry n 0 ∷ [])) (mask-clear (schemeOf (p .code)) (patternOf p) n) x c h xs)
 
   pub clear-held : (x : ℕ) → part.heldUnder p m n x ≡ 0
   unfolding part.heldUnder part.entriesOf
-  clear-held x = rw e (held-clear (p .crypt) (p .skip) n (schemeOf (p .code)) x)
+  clear-held x = rw e (held-clear (patternOf p) n (schemeOf (p .code)) x)
 
   pub clear-ciphered : (iv xs : List ℕ) → length xs ≡ n → part.ciphered E D d p m iv xs ≡ xs
   unfolding part.ciphered part.entriesOf
-  clear-ciphered iv xs l = rw e (whole-clear E D iv (p .crypt) (p .skip) (length xs) d (schemeOf (p .code)) xs)
+  clear-ciphered iv xs l = rw e (whole-clear E D iv (patternOf p) (length xs) d (schemeOf (p .code)) xs)
 
 module _ (E D : Cipher) (sE : Sized E) (sD : Sized D) (d : Direction) (p : Parameters) (m : SubsampleMap) (iv : List ℕ)
     (b : Begins p iv)
@@ -103,21 +106,21 @@ module _ (E D : Cipher) (sE : Sized E) (sD : Sized D) (d : Direction) (p : Param
     es = part.entriesOf p m (length xs)
 
     under-iv : (ys : List ℕ)
-        → part.feedUnder E D d p m (length xs) (free 0 iv) ys ≡ feedSample E D d s (p .crypt) (p .skip) iv es (free 0 iv) ys
+        → part.feedUnder E D d p m (length xs) (free 0 iv) ys ≡ feedSample E D d s (patternOf p) iv es (free 0 iv) ys
     unfolding part.feedUnder
-    under-iv ys = one-iv E D d (p .crypt) (p .skip) (p .«constant_iv» .0) iv es (free 0 iv) ys s (b .constant one)
+    under-iv ys = one-iv E D d (patternOf p) (p .«constant_iv» .0) iv es (free 0 iv) ys s (b .constant one)
 
     protected-released : (x : ℕ) → x ≤ length xs
         → part.feedUnder E D d p m (length xs) (free 0 iv) (take x xs) .released
         ≡ take (x - part.heldUnder p m (length xs) x) (part.ciphered E D d p m iv xs)
     unfolding part.heldUnder part.ciphered
     protected-released x u =
-        rw (under-iv (take x xs), sym (heldAt-is (p .crypt) (p .skip) es s x))
-        (released E D sE sD d iv (b .bytes) (p .crypt) (p .skip) es s (b .first one) xs l x u)
+        rw (under-iv (take x xs), sym (heldAt-is (patternOf p) es s x))
+        (released E D sE sD d iv (b .bytes) (patternOf p) es s (b .first one) xs l x u)
 
     protected-whole : part.feedUnder E D d p m (length xs) (free 0 iv) xs .released ≡ part.ciphered E D d p m iv xs
     unfolding part.ciphered
-    protected-whole = rw (under-iv xs) (machine-whole E D sE sD d iv (b .bytes) (p .crypt) (p .skip) es s (b .first one) xs l)
+    protected-whole = rw (under-iv xs) (machine-whole E D sE sD d iv (b .bytes) (patternOf p) es s (b .first one) xs l)
 
   -- what has been released at position x is the beginning of the whole sample's result, but for the bytes held
   pub fed-released : (x : ℕ) → x ≤ length xs

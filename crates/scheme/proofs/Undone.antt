@@ -13,7 +13,9 @@ use Rattle.octets.specs.Bytes.{Bytes}
 use Rattle.modes_spec.specs.declared.Direction.{Direction}
 use Rattle.modes_spec.specs.Modes.{Cipher, ctr, cbc}
 use Rattle.modes_spec.proofs.Streamed.{shorter}
-use Rattle.modes_spec.proofs.Undone.{back, Inverse, Undoes, same-undone, bytes-take, bytes-drop, bytes-append, ctr-undone, cbc-undone}
+use Rattle.octets.proofs.OfBytes.{bytes-take, bytes-drop, bytes-append}
+use Rattle.modes_spec.proofs.Undone.{back, Inverse, Undoes, same-undone, ctr-undone, cbc-undone}
+use Rattle.scheme.specs.declared.Pattern.{Pattern}
 use Rattle.scheme.specs.declared.Scheme.{Scheme}
 use Rattle.scheme.specs.declared.Scheme.the-variants.{Cenc, Cbc1, Cens, Cbcs}
 use Rattle.scheme.specs.Layout.{Entry, isCiphered, rangeMarks, marks, mask, chosen, replaced}
@@ -181,62 +183,62 @@ parts-leave n m {k} {f} {g} w p q =
 
 -- ---- Each range by itself.
 
-module _ (s : Scheme) (crypt skip : ℕ) where
+module _ (s : Scheme) (pattern : Pattern) where
   -- an entry's clear bytes, its range, the entries after it
   by-parts : (f : List ℕ → List ℕ) (e : Entry) (es : List Entry)
-      → overEach f s crypt skip (e ∷ es)
+      → overEach f s pattern (e ∷ es)
       ≡ parts (e .clear) (λ xs. xs)
-      (parts (e .protected) (over f (rangeMarks (isCiphered s crypt skip) (e .protected))) (overEach f s crypt skip es))
+      (parts (e .protected) (over f (rangeMarks (isCiphered s pattern) (e .protected))) (overEach f s pattern es))
   unfolding overEach parts
   by-parts f e es = fun-ext (λ xs. rw (drop-drop (e .protected) (e .clear) xs))
 
   pub each-undone : {g f : List ℕ → List ℕ} → Undoes g f → (es : List Entry)
-      → Undoes (overEach g s crypt skip es) (overEach f s crypt skip es)
+      → Undoes (overEach g s pattern es) (overEach f s pattern es)
   unfolding overEach
   each-undone u [] = same-undone
   each-undone {g} {f} u (e ∷ es) =
       rw (by-parts g e es, by-parts f e es)
       (parts-undone (e .clear) same-undone
-      (parts-undone (e .protected) (over-undone u (rangeMarks (isCiphered s crypt skip) (e .protected))) (each-undone u es)))
+      (parts-undone (e .protected) (over-undone u (rangeMarks (isCiphered s pattern) (e .protected))) (each-undone u es)))
 
-  pub each-leaves : (f : List ℕ → List ℕ) (es : List Entry) → Leaves (mask s crypt skip es) (overEach f s crypt skip es)
+  pub each-leaves : (f : List ℕ → List ℕ) (es : List Entry) → Leaves (mask s pattern es) (overEach f s pattern es)
   unfolding overEach mask marks
   each-leaves f [] = same-leaves
   each-leaves f (e ∷ es) =
-      let m = rangeMarks (isCiphered s crypt skip) (e .protected) in
+      let m = rangeMarks (isCiphered s pattern) (e .protected) in
       rw (by-parts f e es)
       (parts-leave (e .clear) (replicate (e .clear) false) (length-replicate (e .clear) false) same-leaves
-      (parts-leave (e .protected) m (length-range (isCiphered s crypt skip) (e .protected)) (over-leaves f m) (each-leaves f es)))
+      (parts-leave (e .protected) m (length-range (isCiphered s pattern) (e .protected)) (over-leaves f m) (each-leaves f es)))
 
 -- ---- A whole sample.
 
-module _ {E D : Cipher} (v : Inverse E D) {iv : List ℕ} (w : Bytes 16 iv) (crypt skip : ℕ) (es : List Entry) (d : Direction) where
-  pub whole-undone : (s : Scheme) → Undoes (whole E D iv crypt skip es (back d) s) (whole E D iv crypt skip es d s)
+module _ {E D : Cipher} (v : Inverse E D) {iv : List ℕ} (w : Bytes 16 iv) (pattern : Pattern) (es : List Entry) (d : Direction) where
+  pub whole-undone : (s : Scheme) → Undoes (whole E D iv pattern es (back d) s) (whole E D iv pattern es d s)
   unfolding whole
-  whole-undone Cenc = over-undone (ctr-undone v w 0) (mask Cenc crypt skip es)
-  whole-undone Cbc1 = over-undone (cbc-undone v d w) (mask Cbc1 crypt skip es)
-  whole-undone Cens = over-undone (ctr-undone v w 0) (mask Cens crypt skip es)
-  whole-undone Cbcs = each-undone Cbcs crypt skip (cbc-undone v d w) es
+  whole-undone Cenc = over-undone (ctr-undone v w 0) (mask Cenc pattern es)
+  whole-undone Cbc1 = over-undone (cbc-undone v d w) (mask Cbc1 pattern es)
+  whole-undone Cens = over-undone (ctr-undone v w 0) (mask Cens pattern es)
+  whole-undone Cbcs = each-undone Cbcs pattern (cbc-undone v d w) es
 
   -- opening a locked sample and locking an opened one give every byte back
   pub whole-back : (s : Scheme) {n : ℕ} {xs : List ℕ} → Bytes n xs
-      → whole E D iv crypt skip es (back d) s (whole E D iv crypt skip es d s xs) ≡ xs
+      → whole E D iv pattern es (back d) s (whole E D iv pattern es d s xs) ≡ xs
   whole-back s b = whole-undone s .undone b
 
-module _ (E D : Cipher) (iv : List ℕ) (crypt skip : ℕ) (es : List Entry) (d : Direction) where
-  whole-leaves : (s : Scheme) → Leaves (mask s crypt skip es) (whole E D iv crypt skip es d s)
+module _ (E D : Cipher) (iv : List ℕ) (pattern : Pattern) (es : List Entry) (d : Direction) where
+  whole-leaves : (s : Scheme) → Leaves (mask s pattern es) (whole E D iv pattern es d s)
   unfolding whole
-  whole-leaves Cenc = over-leaves (ctr E iv 0) (mask Cenc crypt skip es)
-  whole-leaves Cbc1 = over-leaves (cbc E D d iv) (mask Cbc1 crypt skip es)
-  whole-leaves Cens = over-leaves (ctr E iv 0) (mask Cens crypt skip es)
-  whole-leaves Cbcs = each-leaves Cbcs crypt skip (cbc E D d iv) es
+  whole-leaves Cenc = over-leaves (ctr E iv 0) (mask Cenc pattern es)
+  whole-leaves Cbc1 = over-leaves (cbc E D d iv) (mask Cbc1 pattern es)
+  whole-leaves Cens = over-leaves (ctr E iv 0) (mask Cens pattern es)
+  whole-leaves Cbcs = each-leaves Cbcs pattern (cbc E D d iv) es
 
   module _ (s : Scheme) (xs : List ℕ) where
     -- whatever the ciphers, no byte comes or goes
-    pub length-whole : length (whole E D iv crypt skip es d s xs) ≡ length xs
+    pub length-whole : length (whole E D iv pattern es d s xs) ≡ length xs
     length-whole = whole-leaves s .size xs
 
     -- and a byte that is not marked never changes
-    pub unmarked-stay : (i : ℕ) → getD (mask s crypt skip es) i false ≡ false
-        → getD (whole E D iv crypt skip es d s xs) i 0 ≡ getD xs i 0
+    pub unmarked-stay : (i : ℕ) → getD (mask s pattern es) i false ≡ false
+        → getD (whole E D iv pattern es d s xs) i 0 ≡ getD xs i 0
     unmarked-stay = whole-leaves s .stay xs

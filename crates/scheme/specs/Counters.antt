@@ -3,13 +3,14 @@ use mathlib.Core.List.{List}
 use Prim.Native.Nat.{ℕ, _+_, _/_}
 use Rattle.octets.specs.Bytes.{listOf}
 use Rattle.modes_spec.specs.Modes.{counterAt}
+use Rattle.scheme.specs.declared.Pattern.{Pattern}
 use Rattle.scheme.specs.declared.Scheme.{Scheme}
 use Rattle.scheme.specs.Layout.{Entry, mask, count}
 
-module _ (s : Scheme) (crypt skip : ℕ) (es : List Entry) where
+module _ (s : Scheme) (pattern : Pattern) (es : List Entry) where
   -- How many counter blocks the ciphered bytes of a sample need, 16 bytes to a block.
   unfoldable pub blocksNeeded : ℕ
-  blocksNeeded = (count (mask s crypt skip es) + 15) / 16
+  blocksNeeded = (count (mask s pattern es) + 15) / 16
 
   -- They are these, from the IV on: ciphered byte j takes its key stream from block j / 16.
   unfoldable pub counterBlocks : List ℕ → List (List ℕ)

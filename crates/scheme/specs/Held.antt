@@ -3,6 +3,7 @@ use mathlib.Core.Bool.{cond}
 use mathlib.Core.List.{List, [], _∷_}
 use Prim.Native.Nat.{ℕ, _-_, _%_}
 use lib.Dec.{ltb}
+use Rattle.scheme.specs.declared.Pattern.{Pattern}
 use Rattle.scheme.specs.declared.Scheme.{Scheme}
 use Rattle.scheme.specs.declared.Scheme.the-variants.{Cenc, Cbc1, Cens, Cbcs}
 use Rattle.scheme.specs.Layout.{Entry, isCiphered}
@@ -24,10 +25,10 @@ unfoldable pub inPlace {ℓ} : {X : Type ℓ} → X → (ℕ → ℕ → X) → 
 inPlace z f Clear = z
 inPlace z f (Inside n o) = f n o
 
-module _ (crypt skip : ℕ) where
+module _ (pattern : Pattern) where
   -- The bytes before a place that lie in the same ciphered block.
   unfoldable pub inBlock : Scheme → Place → ℕ
-  inBlock s p = inPlace 0 (λ (n o : ℕ). cond (isCiphered s crypt skip n o) (o % 16) 0) p
+  inBlock s p = inPlace 0 (λ (n o : ℕ). cond (isCiphered s pattern n o) (o % 16) 0) p
 
   -- The bytes held at position x.
   unfoldable pub heldAt : List Entry → Scheme → ℕ → ℕ

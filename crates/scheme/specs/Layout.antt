@@ -6,12 +6,22 @@ use lib.Dec.{ltb, eqb}
 use lib.ListN.{replicate}
 use Rattle.octets.specs.Bytes.{same}
 use Rattle.track_spec.specs.Track.{cbc1, cens, cbcs}
+use Rattle.track_spec.specs.declared.Parameters.{Parameters}
+use Rattle.scheme.specs.declared.Pattern.{Pattern}
 use Rattle.scheme.specs.declared.Scheme.{Scheme}
 use Rattle.scheme.specs.declared.Scheme.the-variants.{Cenc, Cbc1, Cens, Cbcs}
 
 -- The scheme that a code names; cenc for a code that names none.
 unfoldable pub schemeOf : List ℕ → Scheme
 schemeOf code = cond (same code cbc1) Cbc1 (cond (same code cens) Cens (cond (same code cbcs) Cbcs Cenc))
+
+-- The pattern of a track, as its parameters have it.
+unfoldable pub patternOf : Parameters → Pattern
+patternOf p = record { crypt = p .crypt; skip = p .skip }
+
+-- The blocks after which a pattern begins anew.
+abbrev pub period : Pattern → ℕ
+period pattern = pattern .crypt + pattern .skip
 
 -- ---- A protected range of n bytes.
 
@@ -20,15 +30,15 @@ unfoldable pub inWholeBlock : ℕ → ℕ → Bool
 inWholeBlock n o = ltb (o / 16) (n / 16)
 
 -- The block at offset o is one of the crypt blocks that each crypt + skip blocks begin with.
-unfoldable pub inCryptRun : ℕ → ℕ → ℕ → Bool
-inCryptRun crypt skip o = ltb (o / 16 % (crypt + skip)) crypt
+unfoldable pub inCryptRun : Pattern → ℕ → Bool
+inCryptRun pattern o = ltb (o / 16 % period pattern) (pattern .crypt)
 
 -- The byte at offset o is ciphered.
-unfoldable pub isCiphered : Scheme → ℕ → ℕ → ℕ → ℕ → Bool
-isCiphered Cenc crypt skip n o = true
-isCiphered Cbc1 crypt skip n o = inWholeBlock n o
-isCiphered Cens crypt skip n o = inWholeBlock n o && inCryptRun crypt skip o
-isCiphered Cbcs crypt skip n o = inWholeBlock n o && inCryptRun crypt skip o
+unfoldable pub isCiphered : Scheme → Pattern → ℕ → ℕ → Bool
+isCiphered Cenc pattern n o = true
+isCiphered Cbc1 pattern n o = inWholeBlock n o
+isCiphered Cens pattern n o = inWholeBlock n o && inCryptRun pattern o
+isCiphered Cbcs pattern n o = inWholeBlock n o && inCryptRun pattern o
 
 -- The byte at offset o lies in a block whose chain starts anew: in cbcs the range's first.
 unfoldable pub restarts : Scheme → ℕ → ℕ → Bool
@@ -74,8 +84,8 @@ marks f [] = []
 marks f (e ∷ es) = replicate (e .clear) false ++ (rangeMarks f (e .protected) ++ marks f es)
 
 -- For each byte of the sample, whether it is ciphered.
-unfoldable pub mask : Scheme → ℕ → ℕ → List Entry → List Bool
-mask s crypt skip es = marks (isCiphered s crypt skip) es
+unfoldable pub mask : Scheme → Pattern → List Entry → List Bool
+mask s pattern es = marks (isCiphered s pattern) es
 
 -- For each byte of the sample, whether the chain of its block starts anew.
 unfoldable pub restartMask : Scheme → List Entry → List Bool

@@ -4,3 +4,4 @@ pub mod Machine
 pub mod Held
 pub mod Part
 pub mod Counters
+pub mod Walk

@@ -7,6 +7,9 @@ use lib.ListN.{length, getD, take}
 use Rattle.octets.specs.Xor.{_⊕_}
 use Rattle.modes_spec.specs.declared.Direction.{Direction}
 use Rattle.modes_spec.specs.Modes.{Cipher, counterAt, blockOut, blockChain}
+use Rattle.scheme.specs.declared.Pattern.{Pattern}
+use Rattle.scheme.specs.declared.Mode.{Mode}
+use Rattle.scheme.specs.declared.Mode.the-variants.{Counter, Chain}
 use Rattle.scheme.specs.declared.Scheme.{Scheme}
 use Rattle.scheme.specs.declared.Scheme.the-variants.{Cenc, Cbc1, Cens, Cbcs}
 use Rattle.scheme.specs.Layout.{Entry, mask, restartMask, count}
@@ -26,10 +29,7 @@ pub record Stepped : Type 0 where
   pub state : State
   pub released : List ℕ
 
--- The two modes of operation.
-pub data Mode : Type 0 where
-  Counter Chain : Mode
-
+-- The mode of operation that a scheme uses.
 unfoldable pub modeOf : Scheme → Mode
 modeOf Cenc = Counter
 modeOf Cens = Counter
@@ -72,12 +72,12 @@ module _ (E D : Cipher) (d : Direction) (k : Mode) (iv : List ℕ) (M F : List B
       })
       (record { state = record { position = suc (t .position); block = t .block; held = t .held ++ (b ∷ []) }; released = [] })
 
-  unfoldable pub ciphered : Mode → State → ℕ → Stepped
-  ciphered Counter t b = counted (count (take (t .position) M)) t b
-  ciphered Chain t b = chained t b
+  unfoldable pub cipheredStep : Mode → State → ℕ → Stepped
+  cipheredStep Counter t b = counted (count (take (t .position) M)) t b
+  cipheredStep Chain t b = chained t b
 
   unfoldable pub step : State → ℕ → Stepped
-  step t b = cond (getD M (t .position) false) (ciphered k t b) (plain t b)
+  step t b = cond (getD M (t .position) false) (cipheredStep k t b) (plain t b)
 
   -- A piece is fed byte by byte.
   unfoldable pub feed : State → List ℕ → Stepped
@@ -89,6 +89,6 @@ module _ (E D : Cipher) (d : Direction) (k : Mode) (iv : List ℕ) (M F : List B
       }
 
 -- A piece of a sample of a scheme, fed from a state on.
-module _ (E D : Cipher) (d : Direction) (s : Scheme) (crypt skip : ℕ) (iv : List ℕ) (es : List Entry) where
+module _ (E D : Cipher) (d : Direction) (s : Scheme) (pattern : Pattern) (iv : List ℕ) (es : List Entry) where
   unfoldable pub feedSample : State → List ℕ → Stepped
-  feedSample t xs = feed E D d (modeOf s) iv (mask s crypt skip es) (restartMask s es) t xs
+  feedSample t xs = feed E D d (modeOf s) iv (mask s pattern es) (restartMask s es) t xs

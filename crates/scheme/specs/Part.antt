@@ -10,7 +10,7 @@ use Rattle.modes_spec.specs.Modes.{Cipher}
 use Rattle.track_spec.specs.declared.Parameters.{Parameters}
 use Rattle.subsample_spec.specs.declared.SubsampleMap.{SubsampleMap}
 use Rattle.subsample_spec.specs.Auxiliary.{longest}
-use Rattle.scheme.specs.Layout.{schemeOf, isCiphered, Entry, entry, entries, total}
+use Rattle.scheme.specs.Layout.{patternOf, schemeOf, isCiphered, Entry, entry, entries, total}
 use Rattle.scheme.specs.WholeSample.{whole}
 use Rattle.scheme.specs.Machine.{State, Stepped, free, feedSample}
 use Rattle.scheme.specs.Held.{heldAt}
@@ -25,24 +25,24 @@ entriesOf p m n = cond (eqb (p .protected) 1) (protectedEntries m n) (entry n 0 
 
 -- The sample locked or opened whole.
 unfoldable pub ciphered : Cipher → Cipher → Direction → Parameters → SubsampleMap → List ℕ → List ℕ → List ℕ
-ciphered E D d p m iv xs = whole E D iv (p .crypt) (p .skip) (entriesOf p m (length xs)) d (schemeOf (p .code)) xs
+ciphered E D d p m iv xs = whole E D iv (patternOf p) (entriesOf p m (length xs)) d (schemeOf (p .code)) xs
 
 module _ (p : Parameters) (m : SubsampleMap) (n : ℕ) where
   -- The bytes held at position x.
   unfoldable pub heldUnder : ℕ → ℕ
-  heldUnder x = heldAt (p .crypt) (p .skip) (entriesOf p m n) (schemeOf (p .code)) x
+  heldUnder x = heldAt (patternOf p) (entriesOf p m n) (schemeOf (p .code)) x
 
   -- k bytes from position x on can be ciphered where they lie: they are in a sample of allowed length whose ranges begin with a
   -- ciphered block, and nothing is held where they begin and where they end.
   unfoldable pub fits : ℕ → ℕ → Bool
   fits x k =
-      leb n longest && isCiphered (schemeOf (p .code)) (p .crypt) (p .skip) 16 0 && leb (x + k) (total (entriesOf p m n))
+      leb n longest && isCiphered (schemeOf (p .code)) (patternOf p) 16 0 && leb (x + k) (total (entriesOf p m n))
       && eqb (heldUnder x) 0 && eqb (heldUnder (x + k)) 0
 
 module _ (E D : Cipher) (d : Direction) (p : Parameters) (m : SubsampleMap) (n : ℕ) where
   -- The machine under parameters and a map; a range's first block takes the constant IV.
   unfoldable pub feedUnder : State → List ℕ → Stepped
-  feedUnder t xs = feedSample E D d (schemeOf (p .code)) (p .crypt) (p .skip) (p .«constant_iv» .0) (entriesOf p m n) t xs
+  feedUnder t xs = feedSample E D d (schemeOf (p .code)) (patternOf p) (p .«constant_iv» .0) (entriesOf p m n) t xs
 
   -- A part from position x on, with the counter or chain block c before it; where it doesn't fit nothing changes.
   unfoldable pub transformed : ℕ → List ℕ → List ℕ → Stepped

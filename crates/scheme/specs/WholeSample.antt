@@ -5,6 +5,7 @@ use Prim.Native.Nat.{ℕ, _+_}
 use lib.ListN.{take, drop}
 use Rattle.modes_spec.specs.declared.Direction.{Direction}
 use Rattle.modes_spec.specs.Modes.{Cipher, ctr, cbc}
+use Rattle.scheme.specs.declared.Pattern.{Pattern}
 use Rattle.scheme.specs.declared.Scheme.{Scheme}
 use Rattle.scheme.specs.declared.Scheme.the-variants.{Cenc, Cbc1, Cens, Cbcs}
 use Rattle.scheme.specs.Layout.{Entry, isCiphered, mask, rangeMarks, chosen, replaced}
@@ -14,17 +15,17 @@ unfoldable pub over : (List ℕ → List ℕ) → List Bool → List ℕ → Lis
 over f m xs = replaced m (f (chosen m xs)) xs
 
 -- f over the marked bytes of each protected range by itself.
-unfoldable pub overEach : (List ℕ → List ℕ) → Scheme → ℕ → ℕ → List Entry → List ℕ → List ℕ
-overEach f s crypt skip [] xs = xs
-overEach f s crypt skip (e ∷ es) xs =
+unfoldable pub overEach : (List ℕ → List ℕ) → Scheme → Pattern → List Entry → List ℕ → List ℕ
+overEach f s pattern [] xs = xs
+overEach f s pattern (e ∷ es) xs =
     take (e .clear) xs
-    ++ (over f (rangeMarks (isCiphered s crypt skip) (e .protected)) (take (e .protected) (drop (e .clear) xs))
-    ++ overEach f s crypt skip es (drop (e .clear + e .protected) xs))
+    ++ (over f (rangeMarks (isCiphered s pattern) (e .protected)) (take (e .protected) (drop (e .clear) xs))
+    ++ overEach f s pattern es (drop (e .clear + e .protected) xs))
 
 -- One key stream, or one chain, over the whole sample; in cbcs a chain from the constant IV in each range.
-module _ (E D : Cipher) (iv : List ℕ) (crypt skip : ℕ) (es : List Entry) where
+module _ (E D : Cipher) (iv : List ℕ) (pattern : Pattern) (es : List Entry) where
   unfoldable pub whole : Direction → Scheme → List ℕ → List ℕ
-  whole d Cenc xs = over (ctr E iv 0) (mask Cenc crypt skip es) xs
-  whole d Cbc1 xs = over (cbc E D d iv) (mask Cbc1 crypt skip es) xs
-  whole d Cens xs = over (ctr E iv 0) (mask Cens crypt skip es) xs
-  whole d Cbcs xs = overEach (cbc E D d iv) Cbcs crypt skip es xs
+  whole d Cenc xs = over (ctr E iv 0) (mask Cenc pattern es) xs
+  whole d Cbc1 xs = over (cbc E D d iv) (mask Cbc1 pattern es) xs
+  whole d Cens xs = over (ctr E iv 0) (mask Cens pattern es) xs
+  whole d Cbcs xs = overEach (cbc E D d iv) Cbcs pattern es xs

@@ -1,12 +1,27 @@
-// The four schemes: which bytes of a sample each ciphers, and how (document 01, "Which bytes are ciphered, and how").
+// The four schemes: which bytes of a sample each ciphers, and how (document 01, "Which bytes are ciphered, and how"); definitions
+// and theorems.
 ghost use mathlib.Core.Path.{_≡_};
 ghost use Rattle.scheme.specs.Layout as spec;
+ghost use Rattle.scheme.specs.Machine.{modeOf};
+use track_spec::Parameters;
 
 pub enum Scheme {
     Cenc,
     Cbc1,
     Cens,
     Cbcs,
+}
+
+// The two modes of operation.
+pub enum Mode {
+    Counter,
+    Chain,
+}
+
+// The pattern of a track, in blocks: so many are ciphered, then so many are not, and so on.
+pub struct Pattern {
+    pub crypt: u8,
+    pub skip: u8,
 }
 
 impl Scheme {
@@ -24,5 +39,29 @@ impl Scheme {
             return Scheme::Cbcs;
         }
         Scheme::Cenc
+    }
+
+    // The mode of operation that the scheme uses.
+    pub fn mode(self) -> Mode
+        ensures { λ r. ⌜ r ≡ modeOf self ⌝ }
+    {
+        match self {
+            Scheme::Cenc => Mode::Counter,
+            Scheme::Cbc1 => Mode::Chain,
+            Scheme::Cens => Mode::Counter,
+            Scheme::Cbcs => Mode::Chain,
+        }
+    }
+}
+
+impl Pattern {
+    // The pattern of a track, as its parameters have it.
+    pub fn of(parameters: Parameters) -> Pattern
+        ensures { λ r. ⌜ r ≡ spec.patternOf parameters ⌝ }
+    {
+        Pattern {
+            crypt: parameters.crypt,
+            skip: parameters.skip,
+        }
     }
 }
