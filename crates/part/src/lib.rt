@@ -1,5 +1,4 @@
 // The transform of a part of a sample at an offset, under parameters and a map.
-pub mod position;
 mod runs;
 mod walk;
 
@@ -9,17 +8,17 @@ ghost use Prim.Native.Nat.{_+_, _%_, _≤_};
 ghost use lib.Dec.{leb};
 ghost use lib.ListN.{length, take};
 ghost use Rattle.aes.specs.Block.{encipher, decipher};
-ghost use Rattle.scheme.specs.Layout.{schemeOf, isCiphered, entry, entries, mask, count as counted};
+ghost use Rattle.scheme.specs.Layout.{schemeOf, patternOf, isCiphered, entry, entries, mask, count as counted};
 ghost use Rattle.scheme.specs.Machine.{free, feedSample};
 ghost use Rattle.scheme.specs.Part.{protectedEntries, fits as fitsIn, transformed};
-ghost use Rattle.scheme.proofs.Passes.{left};
-ghost use Rattle.scheme.proofs.Walk.{SampleAsks};
+ghost use Rattle.scheme.specs.Walk.{left, SampleAsks};
 ghost use Rattle.subsample_spec.specs.Auxiliary.{limit, longest};
 use aes::RoundKeys;
 use modes::Direction;
+use scheme::Pattern;
 use scheme::Scheme;
-use subsample::SubsampleMap;
-use track::Parameters;
+use subsample_spec::SubsampleMap;
+use track_spec::Parameters;
 use walk::Ciphering;
 use walk::Progress;
 
@@ -35,16 +34,10 @@ fn within(end: usize, from: usize, size: usize) -> bool
 
 // Whether a range of a track begins with a ciphered block.
 fn begins_ciphered(parameters: Parameters) -> bool
-    ensures { λ r. ⌜ r ≡ isCiphered (schemeOf (parameters .code)) (parameters .crypt) (parameters .skip) 16 0 ⌝ }
+    ensures { λ r. ⌜ r ≡ isCiphered (schemeOf (parameters .code)) (patternOf parameters) 16 0 ⌝ }
 {
     let code = parameters.code;
-    runs::ciphered_at(
-        Scheme::of(code),
-        parameters.crypt as usize,
-        parameters.skip as usize,
-        16,
-        0,
-    )
+    layout::ciphered_at(Scheme::of(code), Pattern::of(parameters), 16, 0)
 }
 
 // Whether `size` bytes from a position of a protected sample on can be ciphered where they lie.
@@ -64,14 +57,14 @@ fn fits(
     if !begins_ciphered(parameters) {
         return false;
     }
-    let end = position::total_length(map, sample_length);
+    let end = layout::total_length(map, sample_length);
     if !within(end, from, size) {
         return false;
     }
-    if position::held_at(parameters, map, sample_length, from) != 0 {
+    if layout::held_at(parameters, map, sample_length, from) != 0 {
         return false;
     }
-    position::held_at(parameters, map, sample_length, from + size) == 0
+    layout::held_at(parameters, map, sample_length, from + size) == 0
 }
 
 // The map of one entry, 0 clear.
@@ -101,7 +94,21 @@ fn written(map: SubsampleMap, sample_length: usize) -> SubsampleMap
     SubsampleMap {
         clear,
         protected,
-        count: runs::least(count, SubsampleMap::LIMIT),
+        count: octets::least(count, SubsampleMap::LIMIT),
+    }
+}
+
+// How the ranges of a track are ciphered.
+fn ciphering(direction: Direction, parameters: Parameters) -> Ciphering
+    ensures { λ r. ⌜ r ≡ record { direction = direction; scheme = schemeOf (parameters .code); pattern = patternOf parameters; iv = parameters .«constant_iv» .0 } ⌝ }
+{
+    let code = parameters.code;
+    let iv = parameters.constant_iv;
+    Ciphering {
+        direction,
+        scheme: Scheme::of(code),
+        pattern: Pattern::of(parameters),
+        iv: iv.bytes(),
     }
 }
 
@@ -116,14 +123,15 @@ fn cipher_part(
     part: &mut [u8],
 ) -> [u8; 16]
     requires { ⌜ («sample_length» ≤ longest)
-        × (SampleAsks (how .scheme) (how .crypt) (how .skip) (protectedEntries map «sample_length») from (length (now part))
-        (counted (take from (mask (how .scheme) (how .crypt) (how .skip) (protectedEntries map «sample_length»))) % 16)) ⌝ }
-    ensures { λ r. ⌜ feedSample (encipher keys) (decipher keys) (how .direction) (how .scheme) (how .crypt) (how .skip) (how .iv)
+        × (SampleAsks (how .scheme) (how .pattern) (protectedEntries map «sample_length») from (length (now part))
+        (counted (take from (mask (how .scheme) (how .pattern) (protectedEntries map «sample_length»))) % 16)) ⌝ }
+    ensures { λ r. ⌜ feedSample (encipher keys) (decipher keys) (how .direction) (how .scheme) (how .pattern) (how .iv)
         (protectedEntries map «sample_length») (free from block) (now (part .entry))
         ≡ left (from + length (now (part .entry))) r (now (part .exit)) ⌝ }
 {
     let scheme = how.scheme;
-    let used = position::used_at(scheme, how.crypt, how.skip, map, sample_length, from);
+    let pattern = how.pattern;
+    let used = layout::used_at(scheme, pattern, map, sample_length, from);
     let entries = written(map, sample_length);
     let clear = entries.clear;
     let protected = entries.protected;
@@ -162,14 +170,6 @@ pub fn transform(
     if !fits(parameters, map, sample_length, from, part.len()) {
         return block;
     }
-    let code = parameters.code;
-    let iv = parameters.constant_iv;
-    let how = Ciphering {
-        direction,
-        scheme: Scheme::of(code),
-        crypt: parameters.crypt as usize,
-        skip: parameters.skip as usize,
-        iv: iv.bytes(),
-    };
+    let how = ciphering(direction, parameters);
     cipher_part(keys, how, map, sample_length, from, block, part)
 }

@@ -6,22 +6,23 @@ ghost use Prim.Native.Nat.{_+_, _%_, _≤_, _<_};
 ghost use lib.ListN.{length, replicate};
 ghost use Rattle.aes.specs.Block.{encipher, decipher};
 ghost use Rattle.scheme.specs.Layout.{entries};
-ghost use Rattle.scheme.specs.Machine.{Chain, modeOf};
-ghost use Rattle.scheme.proofs.Passes.{Passes};
-ghost use Rattle.scheme.proofs.Walk.{RestartsAt, Blocks, RangeAsks, RangeSays, EntryAsks, EntrySays, SampleAsks, SampleSays};
+ghost use Rattle.scheme.specs.declared.Mode.the-variants.{Chain};
+ghost use Rattle.scheme.specs.Machine.{modeOf};
+ghost use Rattle.scheme.specs.Walk.{Passes, RestartsAt, Blocks, RangeAsks, RangeSays, EntryAsks, EntrySays, SampleAsks, SampleSays};
 ghost use Rattle.subsample_spec.specs.Auxiliary.{limit};
 use crate::runs;
 use aes::RoundKeys;
 use modes::Direction;
+use scheme::Mode;
+use scheme::Pattern;
 use scheme::Scheme;
-use subsample::SubsampleMap;
+use subsample_spec::SubsampleMap;
 
 // How the ranges of a track are ciphered; a chain that starts anew takes the IV.
 pub(crate) struct Ciphering {
     pub direction: Direction,
     pub scheme: Scheme,
-    pub crypt: usize,
-    pub skip: usize,
+    pub pattern: Pattern,
     pub iv: [u8; 16],
 }
 
@@ -53,13 +54,16 @@ fn cipher_run(
         used block (now (part .entry)) ((used + length (now (part .entry))) % 16) r (now (part .exit))) ⌝ }
 {
     let scheme = how.scheme;
-    if runs::counts(scheme) {
-        return modes::ctr(keys, block, used, part);
+    let mode = scheme.mode();
+    match mode {
+        Mode::Counter => modes::ctr(keys, block, used, part),
+        Mode::Chain => {
+            let direction = how.direction;
+            let iv = how.iv;
+            let chain = choose(restart, iv, block);
+            modes::cbc(keys, direction, chain, part)
+        }
     }
-    let direction = how.direction;
-    let iv = how.iv;
-    let chain = choose(restart, iv, block);
-    modes::cbc(keys, direction, chain, part)
 }
 
 // A part of a protected range of n bytes, from an offset on.
@@ -71,18 +75,19 @@ fn range_part(
     progress: Progress,
     part: &mut [u8],
 ) -> Progress
-    requires { ⌜ RangeAsks (how .scheme) (how .crypt) (how .skip) n from (length (now part)) (progress .used) ⌝ }
-    ensures { λ r. ⌜ RangeSays (encipher keys) (decipher keys) (how .direction) (how .scheme) (how .crypt) (how .skip) (how .iv) n from
+    requires { ⌜ RangeAsks (how .scheme) (how .pattern) n from (length (now part)) (progress .used) ⌝ }
+    ensures { λ r. ⌜ RangeSays (encipher keys) (decipher keys) (how .direction) (how .scheme) (how .pattern) (how .iv) n from
         (progress .used) (progress .block) (now (part .entry)) (r .used) (r .block) (now (part .exit)) ⌝ }
 {
     let scheme = how.scheme;
+    let pattern = how.pattern;
     let mut block = progress.block;
     let mut used = progress.used;
     let mut at = 0;
     while at < part.len() {
         let o = from + at;
-        let run = runs::run_at(scheme, how.crypt, how.skip, n, o);
-        let end = at + runs::least(run.end - o, part.len() - at);
+        let run = runs::run_at(scheme, pattern, n, o);
+        let end = at + octets::least(run.end - o, part.len() - at);
         if run.ciphered {
             let restart = runs::restarts(scheme, o);
             let next = cipher_run(keys, how, restart, block, used, &mut part[at..end]);
@@ -104,11 +109,11 @@ fn entry_part(
     progress: Progress,
     part: &mut [u8],
 ) -> Progress
-    requires { ⌜ EntryAsks (how .scheme) (how .crypt) (how .skip) clear n from (length (now part)) (progress .used) ⌝ }
-    ensures { λ r. ⌜ EntrySays (encipher keys) (decipher keys) (how .direction) (how .scheme) (how .crypt) (how .skip) (how .iv) clear n from
+    requires { ⌜ EntryAsks (how .scheme) (how .pattern) clear n from (length (now part)) (progress .used) ⌝ }
+    ensures { λ r. ⌜ EntrySays (encipher keys) (decipher keys) (how .direction) (how .scheme) (how .pattern) (how .iv) clear n from
         (progress .used) (progress .block) (now (part .entry)) (r .used) (r .block) (now (part .exit)) ⌝ }
 {
-    let stay = runs::least(runs::less(clear, from), part.len());
+    let stay = octets::least(runs::less(clear, from), part.len());
     range_part(
         keys,
         how,
@@ -131,8 +136,8 @@ pub(crate) fn sample_part(
     part: &mut [u8],
 ) -> Progress
     requires { ⌜ (count ≤ limit)
-        × (SampleAsks (how .scheme) (how .crypt) (how .skip) (entries clear protected count) from (length (now part)) (progress .used)) ⌝ }
-    ensures { λ r. ⌜ SampleSays (encipher keys) (decipher keys) (how .direction) (how .scheme) (how .crypt) (how .skip) (how .iv)
+        × (SampleAsks (how .scheme) (how .pattern) (entries clear protected count) from (length (now part)) (progress .used)) ⌝ }
+    ensures { λ r. ⌜ SampleSays (encipher keys) (decipher keys) (how .direction) (how .scheme) (how .pattern) (how .iv)
         (entries clear protected count) from
         (progress .block) (now (part .entry)) (r .used) (r .block) (now (part .exit)) ⌝ }
 {
@@ -145,7 +150,7 @@ pub(crate) fn sample_part(
         let n = protected[k] as usize;
         let size = a + n;
         if o < size {
-            let end = at + runs::least(size - o, part.len() - at);
+            let end = at + octets::least(size - o, part.len() - at);
             let next = entry_part(keys, how, a, n, o, state, &mut part[at..end]);
             state = next;
             at = end;

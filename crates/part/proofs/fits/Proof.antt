@@ -1,5 +1,7 @@
-use mathlib.Core.Path.{sym, _∙_}
+use mathlib.Core.Bool.{true}
+use mathlib.Core.Path.{_≡_, sym, _∙_}
 use Prim.Native.Nat.{_+_}
+use lib.Dec.{leb}
 use borrow.Author.Tests.{le-leb, lt-leb, leb-true, ne-eqb, eq-eqb, not-true, not-false}
 use Rattle.subsample_spec.specs.Auxiliary.{longest}
 use Rattle.scheme.proofs.Fitting.{fits-is}
@@ -8,6 +10,20 @@ use native.Mathlib.Omega.{arith}
 use Rattle.part.proofs.fits.Statement.{statement}
 use Rattle.part.proofs.fits.Tie as tie
 
+-- the places: the length of all entries, the part within it, and the start
+abbrev start : tie.After-total-length → tie.Start
+start c = c .before .before .before .before
+
+abbrev ended : tie.After-held-at → tie.After-total-length
+ended c = c .before .before .before
+
+-- what these say
+short : (c : tie.After-total-length) → leb (start c .args .sample-length) longest ≡ true
+short c = le-leb (start c .args .sample-length) longest (c .before .before .before .if1 .left)
+
+within : (c : tie.After-held-at) → leb (start (ended c) .args .from + start (ended c) .args .size) (ended c .total-length .result) ≡ true
+within c = sym (c .before .before .within .ensures) ∙ not-false _ (c .before .if3 .left)
+
 returns : tie.Need-returns
 returns c =
     let a = c .before .args in
@@ -15,53 +31,63 @@ returns c =
 
 returns-2 : tie.Need-returns-2
 returns-2 c =
-    let a = c .before .before .before .args in
+    let s = c .before .before .before in
+    let a = s .args in
     rw (
-      fits-is (a .parameters) (a .map) (a .sample-length) (c .before .before .before .pre) (a .from) (a .size),
+      fits-is (a .parameters) (a .map) (a .sample-length) (s .pre) (a .from) (a .size),
       le-leb (a .sample-length) longest (c .before .before .if1 .left),
       sym (c .before .begins-ciphered .ensures) ∙ not-true _ (c .if2 .taken),
     )
 
 returns-3 : tie.Need-returns-3
 returns-3 c =
-    let a = c .before .before .before .before .before .before .args in
+    let t = c .before .before in
+    let s = start t in
+    let a = s .args in
     rw (
-      fits-is (a .parameters) (a .map) (a .sample-length) (c .before .before .before .before .before .before .pre) (a .from) (a .size),
-      le-leb (a .sample-length) longest (c .before .before .before .before .before .if1 .left),
-      sym (c .before .before .before .before .begins-ciphered .ensures) ∙ not-false _ (c .before .before .before .if2 .left),
-      sym (c .before .before .total-length .ensures),
+      fits-is (a .parameters) (a .map) (a .sample-length) (s .pre) (a .from) (a .size),
+      short t,
+      sym (t .before .before .begins-ciphered .ensures) ∙ not-false _ (t .before .if2 .left),
+      sym (t .total-length .ensures),
       sym (c .before .within .ensures) ∙ not-true _ (c .if3 .taken),
     )
 
 returns-4 : tie.Need-returns-4
 returns-4 c =
-    let a = c .before .before .before .before .before .before .before .before .args in
+    let h = c .before in
+    let t = ended h in
+    let s = start t in
+    let a = s .args in
     rw (
-      fits-is (a .parameters) (a .map) (a .sample-length) (c .before .before .before .before .before .before .before .before .pre) (a .from) (a .size),
-      le-leb (a .sample-length) longest (c .before .before .before .before .before .before .before .if1 .left),
-      sym (c .before .before .before .before .before .before .begins-ciphered .ensures) ∙ not-false _ (c .before .before .before .before .before .if2 .left),
-      sym (c .before .before .before .before .total-length .ensures),
-      sym (c .before .before .before .within .ensures) ∙ not-false _ (c .before .before .if3 .left),
-      sym (c .before .held-at .ensures),
-      ne-eqb (c .before .held-at .result) 0 (c .if4 .taken),
+      fits-is (a .parameters) (a .map) (a .sample-length) (s .pre) (a .from) (a .size),
+      short t,
+      sym (t .before .before .begins-ciphered .ensures) ∙ not-false _ (t .before .if2 .left),
+      sym (t .total-length .ensures),
+      within h,
+      sym (h .held-at .ensures),
+      ne-eqb (h .held-at .result) 0 (c .if4 .taken),
     )
 
 add-held-at : tie.Need-add-held-at
 add-held-at c =
-    let a = c .before .before .before .before .before .before .before .before .args in
-    omega (arith, leb-true (a .from + a .size) (c .before .before .before .before .total-length .result) (sym (c .before .before .before .within .ensures) ∙ not-false _ (c .before .before .if3 .left)))
+    let h = c .before in
+    let a = start (ended h) .args in
+    omega (arith, leb-true (a .from + a .size) (ended h .total-length .result) (within h))
 
 returns-5 : tie.Need-returns-5
 returns-5 c =
-    let a = c .before .before .before .before .before .before .before .before .before .args in
+    let h = c .before .before in
+    let t = ended h in
+    let s = start t in
+    let a = s .args in
     rw (
-      fits-is (a .parameters) (a .map) (a .sample-length) (c .before .before .before .before .before .before .before .before .before .pre) (a .from) (a .size),
-      le-leb (a .sample-length) longest (c .before .before .before .before .before .before .before .before .if1 .left),
-      sym (c .before .before .before .before .before .before .before .begins-ciphered .ensures) ∙ not-false _ (c .before .before .before .before .before .before .if2 .left),
-      sym (c .before .before .before .before .before .total-length .ensures),
-      sym (c .before .before .before .before .within .ensures) ∙ not-false _ (c .before .before .before .if3 .left),
-      sym (c .before .before .held-at .ensures),
-      eq-eqb (c .before .before .held-at .result) 0 (c .before .if4 .left),
+      fits-is (a .parameters) (a .map) (a .sample-length) (s .pre) (a .from) (a .size),
+      short t,
+      sym (t .before .before .begins-ciphered .ensures) ∙ not-false _ (t .before .if2 .left),
+      sym (t .total-length .ensures),
+      within h,
+      sym (h .held-at .ensures),
+      eq-eqb (h .held-at .result) 0 (c .before .if4 .left),
       sym (c .held-at2 .ensures),
     )
 

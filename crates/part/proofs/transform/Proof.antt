@@ -1,14 +1,17 @@
+-- the places: a part that fits, of a protected track, and the start
 use mathlib.Core.Path.{sym, ap, _∙_}
-use Prim.Native.Nat.{_≤_}
-use mir.Val.{Fits}
-use mir.Syntax.{w8}
 use Rattle.scheme.specs.Machine.{Stepped}
 use borrow.Author.Tests.{ne-eqb, not-true, not-false}
 use Rattle.scheme.proofs.Fitting.{fits-length, fits-asks, transformed-fits, transformed-not, transformed-clear}
 use borrow.Author.Needs.{needs}
-use native.Mathlib.Omega.{arith}
 use Rattle.part.proofs.transform.Statement.{statement}
 use Rattle.part.proofs.transform.Tie as tie
+
+abbrev fitting : tie.After-ciphering → tie.After-fits2
+fitting c = c .before .before
+
+abbrev start : tie.After-fits2 → tie.Start
+start c = c .before .before .before .before
 
 returns : tie.Need-returns
 returns c =
@@ -22,22 +25,22 @@ returns-2 c =
 
 cipher-part-requires : tie.Need-cipher-part-requires
 cipher-part-requires c κs =
-    let a = c .before .before .before .before .before .before .before .before .before .before .before .before .args in
-    let f = sym (c .before .before .before .before .before .before .before .before .fits2 .ensures) ∙ not-false _ (c .before .before .before .before .before .before .before .if2 .left) in
-    let crypt : Fits w8 (a .parameters .crypt) = search needs in
-    let skip : Fits w8 (a .parameters .skip) = search needs in
-    let low : a .parameters .crypt ≤ 255 = omega (arith, crypt .fits) in
-    let high : a .parameters .skip ≤ 255 = omega (arith, skip .fits) in
-    (fits-length (a .parameters) _ _ (c .before .before .before .before .before .before .before .before .before .if1 .left) _ _ f low high, rw (c .before .before .before .before .of .ensures) (fits-asks (a .parameters) _ _ (c .before .before .before .before .before .before .before .before .before .if1 .left) _ _ f low high))
+    let h = c .before in
+    let f = fitting h in
+    let a = start f .args in
+    let w = sym (f .fits2 .ensures) ∙ not-false _ (h .before .if2 .left) in
+    (fits-length (a .parameters) _ _ (f .before .if1 .left) _ _ w, rw (h .ciphering .ensures) (fits-asks (a .parameters) _ _ (f .before .if1 .left) _ _ w))
 
 returns-3 : tie.Need-returns-3
 returns-3 c =
-    let f = sym (c .before .before .before .before .before .before .before .before .before .before .before .fits2 .ensures) ∙ not-false _ (c .before .before .before .before .before .before .before .before .before .before .if2 .left) in
-    let k = transformed-fits _ _ _ (c .before .before .before .before .before .before .before .before .before .before .before .before .before .before .before .args .parameters) _ _ _ _ _ (c .before .before .before .before .before .before .before .before .before .before .before .before .if1 .left) f ∙ (rw (c .before .before .before .before .before .before .before .of .ensures, c .before .before .before .before .bytes .ensures) at (c .before .before .cipher-part .ensures)) in
+    let p = c .before .before in
+    let h = p .before .before in
+    let f = fitting h in
+    let w = sym (f .fits2 .ensures) ∙ not-false _ (h .before .if2 .left) in
+    let k = transformed-fits _ _ _ (start f .args .parameters) _ _ _ _ _ (f .before .if1 .left) w ∙ (rw (h .ciphering .ensures) at (p .cipher-part .ensures)) in
     (sym (ap (λ (t : Stepped). t .released) k), sym (ap (λ (t : Stepped). t .state .block) k))
 
 pub transform-spec : {M : Type 1} → statement M
 transform-spec =
     tie.close
-    (tie.spec returns (search needs) returns-2 (search needs) (search needs) (search needs) (search needs)
-    cipher-part-requires (search needs) returns-3)
+    (tie.spec returns (search needs) returns-2 (search needs) cipher-part-requires (search needs) returns-3)

@@ -9,21 +9,21 @@ use Rattle.part.proofs.runs.run_at.Tie as tie
 
 pattern-run-requires : tie.Need-pattern-run-requires
 pattern-run-requires c κs =
-    let a = c .before .before .args in
-    let first : isCiphered Cens (a .crypt) (a .skip) 16 0 ≡ true = rw (c .enum-told3 .given .1) at (c .before .before .pre .0 .first) in
-    (c .before .before .pre .1, some-crypt Cens _ _ (is-cens _ _ 16) first, c .before .before .pre .0 .low, c .before .before .pre .0 .high, c .before .before .pre .2)
+    let s = c .before .before in
+    let first : isCiphered Cens (s .args .pattern) 16 0 ≡ true = rw (c .enum-told3 .given .1) at (s .pre .0) in
+    (s .pre .1, some-crypt Cens _ (is-cens _ 16) first, s .pre .2)
 
 pattern-run-requires-2 : tie.Need-pattern-run-requires-2
 pattern-run-requires-2 c κs =
-    let a = c .before .before .args in
-    let first : isCiphered Cbcs (a .crypt) (a .skip) 16 0 ≡ true = rw (c .enum-told4 .given .1) at (c .before .before .pre .0 .first) in
-    (c .before .before .pre .1, some-crypt Cbcs _ _ (is-cbcs _ _ 16) first, c .before .before .pre .0 .low, c .before .before .pre .0 .high, c .before .before .pre .2)
+    let s = c .before .before in
+    let first : isCiphered Cbcs (s .args .pattern) 16 0 ≡ true = rw (c .enum-told4 .given .1) at (s .pre .0) in
+    (s .pre .1, some-crypt Cbcs _ (is-cbcs _ 16) first, s .pre .2)
 
 returns : tie.Need-returns
-returns c = rw (c .enum-told .given .1) (run-cenc _ _ _ _ (c .before .before .pre .1))
+returns c = rw (c .enum-told .given .1) (run-cenc _ _ _ (c .before .before .pre .1))
 
 returns-2 : tie.Need-returns-2
-returns-2 c = rw (c .before .enum-told2 .given .1) (c .whole-run .ensures _ _)
+returns-2 c = rw (c .before .enum-told2 .given .1) (c .whole-run .ensures _)
 
 returns-3 : tie.Need-returns-3
 returns-3 c = rw (c .before .enum-told3 .given .1) (c .pattern-run .ensures .0)

@@ -4,10 +4,10 @@ use Rattle.part.proofs.runs.whole_run.Statement.{statement}
 use Rattle.part.proofs.runs.whole_run.Tie as tie
 
 returns : tie.Need-returns
-returns c = λ crypt skip. run-whole crypt skip _ _ (c .if1 .taken)
+returns c = λ pattern. run-whole pattern _ _ (c .if1 .taken)
 
 returns-2 : tie.Need-returns-2
-returns-2 c = λ crypt skip. run-last1 crypt skip _ _ (c .before .pre) (c .if1 .left)
+returns-2 c = λ pattern. run-last1 pattern _ _ (c .before .pre) (c .if1 .left)
 
 pub whole-run-spec : {M : Type 1} → statement M
 whole-run-spec =

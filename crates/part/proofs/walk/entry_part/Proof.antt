@@ -7,13 +7,16 @@ use Rattle.part.proofs.walk.entry_part.Tie as tie
 range-part-requires : tie.Need-range-part-requires
 range-part-requires c κs =
     let a = c .before .before .before .before .before .args in
-    entry-asked (encipher (a .keys)) (decipher (a .keys)) (a .how .direction) _ _ _ (a .how .iv) _ _ _ _ (a .progress .block)
+    entry-asked (encipher (a .keys)) (decipher (a .keys)) (a .how .direction) _ _ (a .how .iv) _ _ _ _ (a .progress .block)
     (a .part .now) (c .before .before .before .before .before .pre) (c .before .before .least .result) (c .before .less2 .result) (rw (c .before .before .before .less .ensures) at (c .before .before .least .ensures)) (c .before .less2 .ensures)
 
 returns : tie.Need-returns
 returns c =
-    entry-turned _ _ _ _ _ _ _ _ _ _ _ _ _ (c .before .before .before .before .before .before .before .before .pre) (c .before .before .before .before .before .least .result) (c .before .before .before .before .less2 .result)
-    (rw (c .before .before .before .before .before .before .less .ensures) at (c .before .before .before .before .before .least .ensures)) (c .before .before .before .before .less2 .ensures) _ _ (c .before .before .range-part .last .1 .1 .1 .1 .1 .0) (c .before .before .range-part .ensures)
+    let r = c .before .before in
+    let l = r .before .before in
+    let m = l .before in
+    entry-turned _ _ _ _ _ _ _ _ _ _ _ _ (m .before .before .before .pre) (m .least .result) (l .less2 .result)
+    (rw (m .before .less .ensures) at (m .least .ensures)) (l .less2 .ensures) _ _ (r .range-part .last .1 .1 .1 .1 .1 .0) (r .range-part .ensures)
 
 pub entry-part-spec : {M : Type 1} → statement M
 entry-part-spec =

@@ -16,11 +16,15 @@ use Rattle.part.proofs.walk.sample_part.Tie as tie
 
 abbrev Inv-loop : tie.InvT-loop
 Inv-loop keys how count from part₀ clear protected state₀ at₀ k₀ o₀ part state at k o =
-    (Walked (encipher keys) (decipher keys) (how .direction) (how .scheme) (how .crypt) (how .skip) (how .iv) (entries clear protected count)
+    (Walked (encipher keys) (decipher keys) (how .direction) (how .scheme) (how .pattern) (how .iv) (entries clear protected count)
     from (state₀ .used) (state₀ .block) part₀ part (state .block) (state .used) at k o)
 
 abbrev μ-loop : tie.MeasureT-loop
 μ-loop keys how count from part₀ clear protected state₀ at₀ k₀ o₀ part state at k o = count - k
+
+-- the turn in which an entry's part was ciphered
+abbrev turn : tie.After-entry-part Inv-loop μ-loop → tie.In-loop Inv-loop μ-loop
+turn c = c .before .before .before .before
 
 -- in a turn: some of the part is left, an entry is there, and its lengths fit
 within : (c : tie.In-loop Inv-loop μ-loop) → c .before .loop .at < length (c .before .before .before .args .part .now)
@@ -52,7 +56,7 @@ protects : (c : tie.In-loop Inv-loop μ-loop) → Fits w32 (getD (c .before .bef
 protects c = search needs
 
 loop-holds : tie.Need-loop-holds Inv-loop μ-loop
-loop-holds c = walk-start _ _ _ _ _ _ _ _ _ _ _ _ (c .before .pre .1)
+loop-holds c = walk-start _ _ _ _ _ _ _ _ _ _ _ (c .before .pre .1)
 
 mul-a : tie.Need-mul-a Inv-loop μ-loop
 mul-a c = omega (arith, below c)
@@ -95,20 +99,22 @@ part-entry-part-end c = omega (arith, c .least .ensures, c .before .before .loop
 
 entry-part-requires : tie.Need-entry-part-requires Inv-loop μ-loop
 entry-part-requires c κs =
-    walk-asks _ _ _ _ _ _ _ _ _ _ _ _ (c .before .before .before .before .before .before .pre .1) (c .before .before .before .before .loop .inv) (within (c .before .before .before)) _ _
+    walk-asks _ _ _ _ _ _ _ _ _ _ _ (c .before .before .before .before .before .before .pre .1) (c .before .before .before .before .loop .inv) (within (c .before .before .before)) _ _
     (here (c .before .before .before)) (c .before .before .if1 .taken) (c .before .least .result) (c .before .least .ensures) (protects (c .before .before .before) .fits)
 
 add-k : tie.Need-add-k Inv-loop μ-loop
-add-k c = omega (arith, below (c .before .before .before .before .before .before))
+add-k c = omega (arith, below (turn (c .before .before)))
 
 loop-less : tie.Need-loop-less Inv-loop μ-loop
-loop-less c = omega (arith, there (c .before .before .before .before .before .before))
+loop-less c = omega (arith, there (turn (c .before .before)))
 
 loop-again : tie.Need-loop-again Inv-loop μ-loop
 loop-again c =
-    let t = c .before .before .before .before .before .before in
-    walk-turned _ _ _ _ _ _ _ _ _ _ _ _ (c .before .before .before .before .before .before .before .before .before .pre .1) (c .before .before .before .before .before .before .before .loop .inv) (within t) _ _ (here t) (c .before .before .before .before .before .if1 .taken) (c .before .before .before .before .least .result)
-    (c .before .before .before .before .least .ensures) _ _ (c .before .before .entry-part .last .1 .1 .1 .1 .1 .1 .0) (c .before .before .entry-part .kept .1 .1 .1 .1 .1 .1 .0) (c .before .before .entry-part .ensures)
+    let e = c .before .before in
+    let t = turn e in
+    let n = e .before .before in
+    walk-turned _ _ _ _ _ _ _ _ _ _ _ (t .before .before .before .pre .1) (t .before .loop .inv) (within t) _ _ (here t) (n .before .if1 .taken) (n .least .result)
+    (n .least .ensures) _ _ (e .entry-part .last .1 .1 .1 .1 .1 .1 .0) (e .entry-part .kept .1 .1 .1 .1 .1 .1 .0) (e .entry-part .ensures)
 
 add-k-2 : tie.Need-add-k-2 Inv-loop μ-loop
 add-k-2 c = omega (arith, below (c .before))
@@ -118,13 +124,13 @@ loop-less-2 c = omega (arith, there (c .before))
 
 loop-again-2 : tie.Need-loop-again-2 Inv-loop μ-loop
 loop-again-2 c =
-    walk-skipped _ _ _ _ _ _ _ _ _ _ _ _ (c .before .before .before .before .pre .1) (c .before .before .loop .inv) (within (c .before)) _ _ (here (c .before)) (c .if1 .left)
+    walk-skipped _ _ _ _ _ _ _ _ _ _ _ (c .before .before .before .before .pre .1) (c .before .before .loop .inv) (within (c .before)) _ _ (here (c .before)) (c .if1 .left)
 
 same-length : tie.Need-same-length Inv-loop μ-loop
 same-length c = fill-length (c .before .loop .inv .filled)
 
 returns : tie.Need-returns Inv-loop μ-loop
-returns c = walk-end _ _ _ _ _ _ _ _ _ _ _ _ (c .before .before .before .pre .1) (c .before .loop .inv) (omega (arith, fill-length (c .before .loop .inv .filled)))
+returns c = walk-end _ _ _ _ _ _ _ _ _ _ _ (c .before .before .before .pre .1) (c .before .loop .inv) (omega (arith, fill-length (c .before .loop .inv .filled)))
 
 pub sample-part-spec : {M : Type 1} → statement M
 sample-part-spec =

@@ -1,6 +1,6 @@
 use Rattle.scheme.proofs.Locating.{locate-inside, locate-past}
-use Rattle.part.proofs.position.locate_range.Statement.{statement}
-use Rattle.part.proofs.position.locate_range.Tie as tie
+use Rattle.layout.proofs.locate_range.Statement.{statement}
+use Rattle.layout.proofs.locate_range.Tie as tie
 
 returns : tie.Need-returns
 returns c = locate-inside _ _ (c .if1 .taken)

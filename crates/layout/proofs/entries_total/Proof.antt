@@ -9,8 +9,8 @@ use Rattle.scheme.specs.Layout.{entry, entries}
 use Rattle.scheme.proofs.SampleParts.{entry-next, no-more, Summed, sum-start, sum-next, sum-end}
 use borrow.Author.Needs.{needs}
 use native.Mathlib.Omega.{arith}
-use Rattle.part.proofs.position.entries_total.Statement.{statement}
-use Rattle.part.proofs.position.entries_total.Tie as tie
+use Rattle.layout.proofs.entries_total.Statement.{statement}
+use Rattle.layout.proofs.entries_total.Tie as tie
 
 abbrev Inv-loop : tie.InvT-loop
 Inv-loop count clear protected all₀ k₀ all k = (Summed (entries clear protected count) all k) × (k ≤ count)

@@ -5,8 +5,8 @@ use Rattle.subsample_spec.specs.Auxiliary.{limit}
 use Rattle.scheme.specs.Part.{protectedEntries}
 use Rattle.scheme.proofs.SampleParts.{entries-limit}
 use borrow.Author.Needs.{needs}
-use Rattle.part.proofs.position.locate.Statement.{statement}
-use Rattle.part.proofs.position.locate.Tie as tie
+use Rattle.layout.proofs.locate.Statement.{statement}
+use Rattle.layout.proofs.locate.Tie as tie
 
 returns : tie.Need-returns
 unfolding protectedEntries

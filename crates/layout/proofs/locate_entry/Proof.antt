@@ -10,8 +10,8 @@ use Rattle.scheme.proofs.SampleParts.{entry-next, no-more}
 use Rattle.scheme.proofs.Locating.{Locating, locate-start, locate-clear, locate-in, locate-next, locate-none}
 use borrow.Author.Needs.{needs}
 use native.Mathlib.Omega.{arith}
-use Rattle.part.proofs.position.locate_entry.Statement.{statement}
-use Rattle.part.proofs.position.locate_entry.Tie as tie
+use Rattle.layout.proofs.locate_entry.Statement.{statement}
+use Rattle.layout.proofs.locate_entry.Tie as tie
 
 abbrev Inv-loop : tie.InvT-loop
 Inv-loop count x clear protected k₀ y₀ before₀ k y before = (Locating (entries clear protected count) x k y before) × (k ≤ count)

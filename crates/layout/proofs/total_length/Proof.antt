@@ -7,8 +7,8 @@ use Rattle.scheme.specs.Layout.{total}
 use Rattle.scheme.specs.Part.{protectedEntries}
 use Rattle.scheme.proofs.SampleParts.{entries-limit}
 use borrow.Author.Needs.{needs}
-use Rattle.part.proofs.position.total_length.Statement.{statement}
-use Rattle.part.proofs.position.total_length.Tie as tie
+use Rattle.layout.proofs.total_length.Statement.{statement}
+use Rattle.layout.proofs.total_length.Tie as tie
 
 returns : tie.Need-returns
 unfolding protectedEntries total

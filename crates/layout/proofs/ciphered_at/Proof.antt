@@ -1,7 +1,7 @@
 use Rattle.scheme.specs.Layout.{isCiphered, inWholeBlock}
 use borrow.Author.Needs.{needs}
-use Rattle.part.proofs.runs.ciphered_at.Statement.{statement}
-use Rattle.part.proofs.runs.ciphered_at.Tie as tie
+use Rattle.layout.proofs.ciphered_at.Statement.{statement}
+use Rattle.layout.proofs.ciphered_at.Tie as tie
 
 returns : tie.Need-returns
 unfolding isCiphered

@@ -1,17 +1,58 @@
-// Where a position of a sample lies, how far its key stream block is used there, and how many bytes are held there.
+// The layout of a sample (document 01, "Which bytes are ciphered, and how" and "Pieces"): whether a byte of a range is ciphered, where
+// a position lies, how far its key stream block is used there, and how many bytes are held there.
+ghost use mathlib.Core.Bool.{_&&_};
 ghost use mathlib.Core.List.{[], _∷_};
 ghost use mathlib.Core.Path.{_≡_};
 ghost use Prim.Native.Nat.{_%_, _≤_};
 ghost use lib.ListN.{take};
-ghost use Rattle.scheme.specs.Layout.{entry, entries, total, mask, count as counted};
+ghost use Rattle.scheme.specs.Layout.{inWholeBlock, inCryptRun, isCiphered, entry, entries, total, mask, count as counted};
 ghost use Rattle.scheme.specs.Held.{heldAt};
 ghost use Rattle.scheme.specs.Part.{protectedEntries, heldUnder};
-ghost use Rattle.scheme.proofs.Walk.{Located};
+ghost use Rattle.scheme.specs.Walk as spec;
 ghost use Rattle.subsample_spec.specs.Auxiliary.{limit};
-use crate::runs;
+use scheme::Mode;
+use scheme::Pattern;
 use scheme::Scheme;
-use subsample::SubsampleMap;
-use track::Parameters;
+use subsample_spec::SubsampleMap;
+use track_spec::Parameters;
+
+// Whether every protected byte is ciphered.
+pub fn every_byte(scheme: Scheme) -> bool
+    ensures { λ r. ⌜ r ≡ spec.everyByte scheme ⌝ }
+{
+    match scheme {
+        Scheme::Cenc => true,
+        Scheme::Cbc1 => false,
+        Scheme::Cens => false,
+        Scheme::Cbcs => false,
+    }
+}
+
+// Whether the byte at an offset of a range of n bytes lies in a whole block that the pattern ciphers.
+fn in_pattern(pattern: Pattern, n: usize, o: usize) -> bool
+    ensures { λ r. ⌜ r ≡ inWholeBlock n o && inCryptRun pattern o ⌝ }
+{
+    if n / 16 <= o / 16 {
+        return false;
+    }
+    let crypt = pattern.crypt as usize;
+    if crypt == 0 {
+        return false;
+    }
+    o / 16 % (crypt + pattern.skip as usize) < crypt
+}
+
+// Whether the byte at an offset of a range of n bytes is ciphered.
+pub fn ciphered_at(scheme: Scheme, pattern: Pattern, n: usize, o: usize) -> bool
+    ensures { λ r. ⌜ r ≡ isCiphered scheme pattern n o ⌝ }
+{
+    match scheme {
+        Scheme::Cenc => true,
+        Scheme::Cbc1 => o / 16 < n / 16,
+        Scheme::Cens => in_pattern(pattern, n, o),
+        Scheme::Cbcs => in_pattern(pattern, n, o),
+    }
+}
 
 // In a protected range of n bytes at offset o, or in clear bytes; and the protected bytes before it.
 struct Position {
@@ -29,7 +70,7 @@ fn locate_entry(
     x: usize,
 ) -> Position
     requires { ⌜ count ≤ limit ⌝ }
-    ensures { λ r. ⌜ Located (entries clear protected count) x (r .inside) (r .n) (r .o) (r .rank) ⌝ }
+    ensures { λ r. ⌜ spec.Located (entries clear protected count) x (r .inside) (r .n) (r .o) (r .rank) ⌝ }
 {
     let mut k = 0;
     let mut y = x;
@@ -68,7 +109,7 @@ fn locate_entry(
 
 // Where position x lies in a sample that is one protected range.
 fn locate_range(length: usize, x: usize) -> Position
-    ensures { λ r. ⌜ Located (entry 0 «length» ∷ []) x (r .inside) (r .n) (r .o) (r .rank) ⌝ }
+    ensures { λ r. ⌜ spec.Located (entry 0 «length» ∷ []) x (r .inside) (r .n) (r .o) (r .rank) ⌝ }
 {
     if x < length {
         Position {
@@ -89,7 +130,7 @@ fn locate_range(length: usize, x: usize) -> Position
 
 // Where position x of a protected sample lies.
 fn locate(map: SubsampleMap, length: usize, x: usize) -> Position
-    ensures { λ r. ⌜ Located (protectedEntries map «length») x (r .inside) (r .n) (r .o) (r .rank) ⌝ }
+    ensures { λ r. ⌜ spec.Located (protectedEntries map «length») x (r .inside) (r .n) (r .o) (r .rank) ⌝ }
 {
     let count = map.count;
     if count == 0 {
@@ -97,27 +138,30 @@ fn locate(map: SubsampleMap, length: usize, x: usize) -> Position
     }
     let clear = map.clear;
     let protected = map.protected;
-    locate_entry(clear, protected, runs::least(count, SubsampleMap::LIMIT), x)
+    locate_entry(
+        clear,
+        protected,
+        octets::least(count, SubsampleMap::LIMIT),
+        x,
+    )
 }
 
 // How many bytes of the key stream block are used at position x of a protected sample.
-pub(crate) fn used_at(
+pub fn used_at(
     scheme: Scheme,
-    crypt: usize,
-    skip: usize,
+    pattern: Pattern,
     map: SubsampleMap,
     length: usize,
     x: usize,
 ) -> usize
-    requires { ⌜ (crypt ≤ 255) × (skip ≤ 255) ⌝ }
-    ensures { λ r. ⌜ r ≡ counted (take x (mask scheme crypt skip (protectedEntries map «length»))) % 16 ⌝ }
+    ensures { λ r. ⌜ r ≡ counted (take x (mask scheme pattern (protectedEntries map «length»))) % 16 ⌝ }
 {
     let p = locate(map, length, x);
-    if runs::every_byte(scheme) {
+    if every_byte(scheme) {
         return p.rank % 16;
     }
     if p.inside {
-        if runs::ciphered_at(scheme, crypt, skip, p.n, p.o) {
+        if ciphered_at(scheme, pattern, p.n, p.o) {
             return p.o % 16;
         }
     }
@@ -125,21 +169,14 @@ pub(crate) fn used_at(
 }
 
 // How many bytes are held at position x of a protected sample.
-fn held_in(
-    scheme: Scheme,
-    crypt: usize,
-    skip: usize,
-    map: SubsampleMap,
-    length: usize,
-    x: usize,
-) -> usize
-    requires { ⌜ (crypt ≤ 255) × (skip ≤ 255) ⌝ }
-    ensures { λ r. ⌜ r ≡ heldAt crypt skip (protectedEntries map «length») scheme x ⌝ }
+fn held_in(scheme: Scheme, pattern: Pattern, map: SubsampleMap, length: usize, x: usize) -> usize
+    ensures { λ r. ⌜ r ≡ heldAt pattern (protectedEntries map «length») scheme x ⌝ }
 {
-    if runs::counts(scheme) {
-        return 0;
+    let mode = scheme.mode();
+    match mode {
+        Mode::Counter => 0,
+        Mode::Chain => used_at(scheme, pattern, map, length, x),
     }
-    used_at(scheme, crypt, skip, map, length, x)
 }
 
 // How many bytes are held at position x of a sample.
@@ -150,14 +187,7 @@ pub fn held_at(parameters: Parameters, map: SubsampleMap, length: usize, x: usiz
         return 0;
     }
     let code = parameters.code;
-    held_in(
-        Scheme::of(code),
-        parameters.crypt as usize,
-        parameters.skip as usize,
-        map,
-        length,
-        x,
-    )
+    held_in(Scheme::of(code), Pattern::of(parameters), map, length, x)
 }
 
 // The lengths of the first `count` entries together.
@@ -179,7 +209,7 @@ fn entries_total(
 }
 
 // How many bytes the entries of a protected sample call for.
-pub(crate) fn total_length(map: SubsampleMap, length: usize) -> usize
+pub fn total_length(map: SubsampleMap, length: usize) -> usize
     ensures { λ r. ⌜ r ≡ total (protectedEntries map «length») ⌝ }
 {
     let count = map.count;
@@ -188,5 +218,5 @@ pub(crate) fn total_length(map: SubsampleMap, length: usize) -> usize
     }
     let clear = map.clear;
     let protected = map.protected;
-    entries_total(clear, protected, runs::least(count, SubsampleMap::LIMIT))
+    entries_total(clear, protected, octets::least(count, SubsampleMap::LIMIT))
 }
