@@ -1,25 +1,21 @@
 use mathlib.Core.Path.{ap}
-use Rattle.volume.proofs.Valid.{valid-has}
+use Rattle.volume_spec.proofs.Valid.{valid-has}
+use borrow.Author.Needs.{needs}
 use native.Mathlib.Omega.{arith}
 use Rattle.volume.proofs.entry_of.Statement.{statement}
 use Rattle.volume.proofs.entry_of.Tie as tie
 
-read-requires : tie.Need-read-requires
-read-requires c κs = valid-has _ (c .before .pre .0) .whole
+-- the entry lies within the volume, so that no sum wraps
+mul-read-entry : tie.Need-mul-read-entry
+mul-read-entry c = omega (arith, valid-has _ (c .before .before .pre .0) .filled)
 
-mul-read : tie.Need-mul-read
-mul-read c = omega (arith, valid-has _ (c .before .before .pre .0) .filled)
-
-add-read : tie.Need-add-read
-add-read c = omega (arith, valid-has _ (c .before .before .pre .0) .filled, ap (λ t. t .index) (c .read .ensures))
-
-read-requires-2 : tie.Need-read-requires-2
-read-requires-2 c κs = omega (arith, valid-has _ (c .before .before .pre .0) .filled, ap (λ t. t .index) (c .read .ensures))
+add-read-entry : tie.Need-add-read-entry
+add-read-entry c = omega (arith, valid-has _ (c .before .before .pre .0) .filled, ap (λ t. t .offset) (c .read-trailer .ensures))
 
 returns : tie.Need-returns
-returns c = rw (← (c .before .read .ensures)) (c .read2 .ensures)
+returns c = rw (← (c .before .read-trailer .ensures)) (c .read-entry .ensures)
 
 pub entry-of-spec : {M : Type 1} → statement M
 entry-of-spec =
     tie.close
-    (tie.spec read-requires mul-read add-read read-requires-2 returns)
+    (tie.spec (search needs) mul-read-entry add-read-entry (search needs) returns)

@@ -1,0 +1,13 @@
+pub mod Fields
+pub mod Entries
+pub mod Room
+pub mod Placing
+pub mod Valid
+pub mod Records
+pub mod Adding
+pub mod Writing
+pub mod Disposal
+pub mod WrittenOnce
+pub mod NeverEarly
+pub mod Depends
+pub mod Examples
