@@ -1,57 +1,16 @@
-// Start vectors without a clock (document 02, Ask 3): an issuer for one KID and one IV size.
-pub mod refusal;
-
+// Start vectors without a clock (document 02, Ask 3): starting an issuer, and its grants.
 ghost use mathlib.Core.List.{_++_};
 ghost use mathlib.Core.Path.{_≡_};
 ghost use Rattle.octets.specs.Bytes.{filled};
 ghost use Rattle.track_spec.specs.Track.{zeros};
-ghost use Rattle.issuer.specs.Issuer as spec;
+ghost use Rattle.issuer_spec.specs.Issuer as spec;
+pub use issuer_spec::Granted;
+pub use issuer_spec::Issuer;
+pub use issuer_spec::IvSize;
+pub use issuer_spec::Started;
+pub use issuer_spec::refusal;
 use track::StartVector;
 use track::refusal::DONE;
-
-// How many bytes of a start vector the track's samples carry.
-pub enum IvSize {
-    Eight,
-    Sixteen,
-}
-
-// What is granted next: the number and, in size 16, the eight bytes before it. Once the largest number is covered, nothing.
-pub struct Issuer {
-    pub size: IvSize,
-    pub first: [u8; 8],
-    pub number: u64,
-    pub used_up: bool,
-}
-
-impl Issuer {
-    // The most blocks that a grant may name; no accepted sample needs more.
-    pub const MOST_BLOCKS: u64 = 1048576;
-
-    // The issuer of a refused start.
-    pub fn exhausted() -> Issuer
-        ensures { λ r. ⌜ r ≡ spec.exhausted ⌝ }
-    {
-        Issuer {
-            size: IvSize::Eight,
-            first: [0; 8],
-            number: 0,
-            used_up: true,
-        }
-    }
-}
-
-// What starting an issuer answers.
-pub struct Started {
-    pub number: u8,
-    pub issuer: Issuer,
-}
-
-// What a grant answers: the start vector, and the issuer to use next.
-pub struct Granted {
-    pub number: u8,
-    pub vector: StartVector,
-    pub issuer: Issuer,
-}
 
 // The first eight bytes.
 fn first_eight(bytes: &[u8]) -> [u8; 8]
@@ -75,28 +34,28 @@ pub fn start(bytes: &[u8]) -> Started
 {
     if bytes.len() == 8 {
         return Started {
-            number: DONE,
+            answer: DONE,
             issuer: Issuer {
                 size: IvSize::Eight,
                 first: [0; 8],
-                number: octets::be64(bytes, 0),
+                counter: octets::be64(bytes, 0),
                 used_up: false,
             },
         };
     }
     if bytes.len() == 16 {
         return Started {
-            number: DONE,
+            answer: DONE,
             issuer: Issuer {
                 size: IvSize::Sixteen,
                 first: first_eight(bytes),
-                number: octets::be64(bytes, 8),
+                counter: octets::be64(bytes, 8),
                 used_up: false,
             },
         };
     }
     Started {
-        number: refusal::START,
+        answer: refusal::START,
         issuer: Issuer::exhausted(),
     }
 }
@@ -125,17 +84,17 @@ fn joined(a: [u8; 8], b: [u8; 8]) -> [u8; 16]
     ]
 }
 
-// The start vector of a number, filled out with zeros in size 8.
-fn vector(size: IvSize, first: [u8; 8], number: u64) -> StartVector
-    ensures { λ r. ⌜ r .0 ≡ spec.vector size first number ⌝ }
+// The start vector of a counter, filled out with zeros in size 8.
+fn vector(size: IvSize, first: [u8; 8], counter: u64) -> StartVector
+    ensures { λ r. ⌜ r .0 ≡ spec.vector size first counter ⌝ }
 {
     match size {
-        IvSize::Eight => StartVector::new(joined(octets::bytes64(number), [0; 8])),
-        IvSize::Sixteen => StartVector::new(joined(first, octets::bytes64(number))),
+        IvSize::Eight => StartVector::new(joined(octets::bytes64(counter), [0; 8])),
+        IvSize::Sixteen => StartVector::new(joined(first, octets::bytes64(counter))),
     }
 }
 
-// By how much a sample of so many blocks advances the number: in size 8 to the next one, in size 16 by its blocks.
+// By how much a sample of so many blocks advances the counter: in size 8 to the next one, in size 16 by its blocks.
 fn advance(size: IvSize, blocks: u64) -> u64
     ensures { λ r. ⌜ r ≡ spec.advance size blocks ⌝ }
 {
@@ -145,7 +104,7 @@ fn advance(size: IvSize, blocks: u64) -> u64
     }
 }
 
-// The issuer once all numbers up to `last` are covered: it goes on with the next one, and after the largest it is used up.
+// The issuer once all counters up to `last` are covered: it goes on with the next one, and after the largest it is used up.
 fn after(issuer: Issuer, last: u64) -> Issuer
     ensures { λ r. ⌜ r ≡ spec.after issuer last ⌝ }
 {
@@ -153,16 +112,16 @@ fn after(issuer: Issuer, last: u64) -> Issuer
     if last == u64::MAX {
         next.used_up = true;
     } else {
-        next.number = last + 1;
+        next.counter = last + 1;
     }
     next
 }
 
-fn refused(number: u8, issuer: Issuer) -> Granted
-    ensures { λ r. ⌜ r ≡ record { number = number; vector = record { 0 = zeros }; issuer = issuer } ⌝ }
+fn refused(answer: u8, issuer: Issuer) -> Granted
+    ensures { λ r. ⌜ r ≡ record { answer = answer; vector = record { 0 = zeros }; issuer = issuer } ⌝ }
 {
     Granted {
-        number,
+        answer,
         vector: StartVector::new([0; StartVector::SIZE]),
         issuer,
     }
@@ -188,13 +147,13 @@ pub fn grant(issuer: Issuer, blocks: u64) -> Granted
     let size = issuer.size;
     let first = issuer.first;
     let past = advance(size, blocks) - 1;
-    if u64::MAX - issuer.number < past {
+    if u64::MAX - issuer.counter < past {
         return refused(refusal::USED_UP, issuer);
     }
-    let last = issuer.number + past;
+    let last = issuer.counter + past;
     Granted {
-        number: DONE,
-        vector: vector(size, first, issuer.number),
+        answer: DONE,
+        vector: vector(size, first, issuer.counter),
         issuer: after(issuer, last),
     }
 }

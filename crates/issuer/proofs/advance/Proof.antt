@@ -1,4 +1,4 @@
-use Rattle.issuer.specs.Issuer.{advance}
+use Rattle.issuer_spec.specs.Issuer.{advance}
 use borrow.Author.Needs.{needs}
 use Rattle.issuer.proofs.advance.Statement.{statement}
 use Rattle.issuer.proofs.advance.Tie as tie

@@ -1,5 +1,5 @@
 use borrow.Author.Tests.{eq-eqb, ne-eqb}
-use Rattle.issuer.specs.Issuer.{largest, after}
+use Rattle.issuer_spec.specs.Issuer.{largest, after}
 use borrow.Author.Needs.{needs}
 use Rattle.issuer.proofs.after.Statement.{statement}
 use Rattle.issuer.proofs.after.Tie as tie

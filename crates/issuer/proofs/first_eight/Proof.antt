@@ -6,17 +6,18 @@ use Rattle.issuer.proofs.first_eight.Tie as tie
 
 returns : tie.Need-returns
 returns c =
+    let four = c .before .before .before .before in
     rw (
       c .byte-at8 .ensures,
       c .before .byte-at7 .ensures,
       c .before .before .byte-at6 .ensures,
       c .before .before .before .byte-at5 .ensures,
-      c .before .before .before .before .byte-at4 .ensures,
-      c .before .before .before .before .before .byte-at3 .ensures,
-      c .before .before .before .before .before .before .byte-at2 .ensures,
-      c .before .before .before .before .before .before .before .byte-at .ensures,
+      four .byte-at4 .ensures,
+      four .before .byte-at3 .ensures,
+      four .before .before .byte-at2 .ensures,
+      four .before .before .before .byte-at .ensures,
     )
-    (sym (filled-listOf 8 (c .before .before .before .before .before .before .before .before .before .args .bytes .now)))
+    (sym (filled-listOf 8 _))
 
 pub first-eight-spec : {M : Type 1} → statement M
 first-eight-spec =

@@ -1,4 +1,4 @@
-use Rattle.issuer.specs.Issuer.{vector}
+use Rattle.issuer_spec.specs.Issuer.{vector}
 use borrow.Author.Needs.{needs}
 use Rattle.issuer.proofs.vector.Statement.{statement}
 use Rattle.issuer.proofs.vector.Tie as tie

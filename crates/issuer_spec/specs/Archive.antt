@@ -12,8 +12,8 @@ use Rattle.scheme.specs.Layout.{schemeOf, Entry}
 use Rattle.scheme.specs.Part.{entriesOf}
 use Rattle.scheme.specs.Counters.{blocksNeeded, counterBlocks}
 use Rattle.sample.specs.Sample.{sampleRows}
-use Rattle.issuer.specs.Issuer.{start}
-use Rattle.issuer.specs.Grants.{grantAt}
+use Rattle.issuer_spec.specs.Issuer.{start}
+use Rattle.issuer_spec.specs.Grants.{grantAt}
 
 -- What a sample of some length is locked with.
 pub record Sample : Type 0 where
@@ -46,6 +46,6 @@ blockOf x a = getD (counterBlocks (schemeOf (parameters x .code)) (parameters x 
 -- The library accepts the sample, its start vector is that of accepted grant k, and it needs no more blocks than the grant named.
 pub record LockedWith (bytes counts : List ℕ) (k : ℕ) (x : Sample) : Type 0 where
   pub sample : answerTo x ≡ 0
-  pub grant : grantAt (start bytes .issuer) counts k .number ≡ 0
+  pub grant : grantAt (start bytes .issuer) counts k .answer ≡ 0
   pub iv : ivOf x ≡ grantAt (start bytes .issuer) counts k .vector .0
   pub enough : needed x ≤ getD counts k 0

@@ -6,9 +6,9 @@ use Prim.Native.Nat.{ℕ, zero, suc, _+_, _<_}
 use lib.Dec.{eqb}
 use lib.ListN.{getD}
 use Rattle.modes_spec.specs.Modes.{counterAt}
-use Rattle.issuer.specs.declared.Issuer.{Issuer}
-use Rattle.issuer.specs.declared.Granted.{Granted}
-use Rattle.issuer.specs.Issuer.{exhausted, start, advance, grant}
+use Rattle.issuer_spec.specs.declared.Issuer.{Issuer}
+use Rattle.issuer_spec.specs.declared.Granted.{Granted}
+use Rattle.issuer_spec.specs.Issuer.{exhausted, start, advance, grant}
 
 -- One grant after the other, each from the issuer that the one before handed back.
 unfoldable pub run : Issuer → List ℕ → List Granted
@@ -19,15 +19,15 @@ run i (n ∷ ns) = grant i n ∷ run (grant i n .issuer) ns
 abbrev pub grantAt : Issuer → List ℕ → ℕ → Granted
 grantAt i ns k = getD (run i ns) k (grant exhausted 0)
 
--- By how much the accepted ones among the first k advanced the number.
+-- By how much the accepted ones among the first k advanced the counter.
 unfoldable pub advanced : Issuer → List ℕ → ℕ → ℕ
 advanced i ns zero = 0
 advanced i [] (suc k) = 0
-advanced i (n ∷ ns) (suc k) = cond (eqb (grant i n .number) 0) (advance (i .size) n) 0 + advanced (grant i n .issuer) ns k
+advanced i (n ∷ ns) (suc k) = cond (eqb (grant i n .answer) 0) (advance (i .size) n) 0 + advanced (grant i n .issuer) ns k
 
 -- Grant k from a start's bytes is accepted and covers a counter block: one of as many as it named, from its start vector on.
 pub record Covers (bytes counts : List ℕ) (k : ℕ) (block : List ℕ) : Type 0 where
-  pub accepted : grantAt (start bytes .issuer) counts k .number ≡ 0
+  pub accepted : grantAt (start bytes .issuer) counts k .answer ≡ 0
   pub step : ℕ
   pub named : step < getD counts k 0
   pub there : block ≡ counterAt (grantAt (start bytes .issuer) counts k .vector .0) step

@@ -6,25 +6,25 @@ use Prim.Native.Nat.{ℕ, zero, suc, _+_}
 use lib.Dec.{eqb}
 use lib.ListN.{length, getD}
 use Rattle.octets.specs.Answers.{answer}
-use Rattle.issuer.specs.declared.Issuer.{Issuer}
-use Rattle.issuer.specs.Issuer.{largest, issuer, exhausted, lastNumber, badCount, pastEnd, grantRows, startRows, start, after, grant}
-use Rattle.issuer.specs.Grants.{run, grantAt}
+use Rattle.issuer_spec.specs.declared.Issuer.{Issuer}
+use Rattle.issuer_spec.specs.Issuer.{largest, issuer, exhausted, lastCounter, badCount, pastEnd, grantRows, startRows, start, after, grant}
+use Rattle.issuer_spec.specs.Grants.{run, grantAt}
 
 -- ---- The start.
 
-pub start-alike : (bytes bytes′ : List ℕ) → length bytes ≡ length bytes′ → start bytes .number ≡ start bytes′ .number
+pub start-alike : (bytes bytes′ : List ℕ) → length bytes ≡ length bytes′ → start bytes .answer ≡ start bytes′ .answer
 unfolding start startRows
 start-alike bytes bytes′ l = rw l
 
 -- ---- Grants, one after the other.
 
-answer-is : (i : Issuer) (n : ℕ) → grant i n .number ≡ cond (badCount n) 19 (cond (pastEnd i n) 20 0)
+answer-is : (i : Issuer) (n : ℕ) → grant i n .answer ≡ cond (badCount n) 19 (cond (pastEnd i n) 20 0)
 unfolding grant grantRows answer
 answer-is i n = refl
 
 -- an answer other than 20 is 19 or 0 by the count alone
-pub by-count : (i : Issuer) (ns : List ℕ) (k : ℕ) → (grantAt i ns k .number ≡ 20 → ⊥)
-    → grantAt i ns k .number ≡ cond (badCount (getD ns k 0)) 19 0
+pub by-count : (i : Issuer) (ns : List ℕ) (k : ℕ) → (grantAt i ns k .answer ≡ 20 → ⊥)
+    → grantAt i ns k .answer ≡ cond (badCount (getD ns k 0)) 19 0
 unfolding run
 by-count i [] k h = answer-is exhausted 0
 by-count i (n ∷ ns) zero h = answer-is i n ∙ go (badCount n) (pastEnd i n) (λ e. h (answer-is i n ∙ e))
@@ -36,20 +36,20 @@ by-count i (n ∷ ns) zero h = answer-is i n ∙ go (badCount n) (pastEnd i n) (
 by-count i (n ∷ ns) (suc k) h = by-count (grant i n .issuer) ns k h
 
 -- so two issuers, whatever they hold, answer one list of counts the same but for 20
-pub alike-but-20 : (i j : Issuer) (ns : List ℕ) (k : ℕ) → (grantAt i ns k .number ≡ 20 → ⊥) → (grantAt j ns k .number ≡ 20 → ⊥)
-    → grantAt i ns k .number ≡ grantAt j ns k .number
+pub alike-but-20 : (i j : Issuer) (ns : List ℕ) (k : ℕ) → (grantAt i ns k .answer ≡ 20 → ⊥) → (grantAt j ns k .answer ≡ 20 → ⊥)
+    → grantAt i ns k .answer ≡ grantAt j ns k .answer
 alike-but-20 i j ns k p q = by-count i ns k p ∙ sym (by-count j ns k q)
 
--- 20 depends on size and number, and not on the bytes before the number.
+-- 20 depends on size and counter, and not on the bytes before the counter.
 pub record Alike (i j : Issuer) : Type 0 where
   pub size : i .size ≡ j .size
-  pub number : i .number ≡ j .number
+  pub counter : i .counter ≡ j .counter
   pub used-up : i .«used_up» ≡ j .«used_up»
 
 module _ {i j : Issuer} (s : Alike i j) where
-  alike-last : (n : ℕ) → lastNumber i n ≡ lastNumber j n
-  unfolding lastNumber
-  alike-last n = rw (s .size, s .number)
+  alike-last : (n : ℕ) → lastCounter i n ≡ lastCounter j n
+  unfolding lastCounter
+  alike-last n = rw (s .size, s .counter)
 
   alike-answer : (n : ℕ) → answer (grantRows i n) ≡ answer (grantRows j n)
   unfolding grantRows answer
@@ -60,20 +60,20 @@ module _ {i j : Issuer} (s : Alike i j) where
   alike-after last = go (eqb last largest)
     where
       go : (b : Bool)
-          → Alike (cond b (issuer (i .size) (i .first) (i .number) true) (issuer (i .size) (i .first) (last + 1) (i .«used_up»)))
-          (cond b (issuer (j .size) (j .first) (j .number) true) (issuer (j .size) (j .first) (last + 1) (j .«used_up»)))
-      go true = record { size = s .size; number = s .number; used-up = refl }
-      go false = record { size = s .size; number = refl; used-up = s .used-up }
+          → Alike (cond b (issuer (i .size) (i .first) (i .counter) true) (issuer (i .size) (i .first) (last + 1) (i .«used_up»)))
+          (cond b (issuer (j .size) (j .first) (j .counter) true) (issuer (j .size) (j .first) (last + 1) (j .«used_up»)))
+      go true = record { size = s .size; counter = s .counter; used-up = refl }
+      go false = record { size = s .size; counter = refl; used-up = s .used-up }
 
   alike-issuers : (n : ℕ) → Alike (grant i n .issuer) (grant j n .issuer)
   unfolding grant
   alike-issuers n = rw (alike-answer n, alike-last n) (go (eqb (answer (grantRows j n)) 0))
     where
-      go : (b : Bool) → Alike (cond b (after i (lastNumber j n)) i) (cond b (after j (lastNumber j n)) j)
-      go true = alike-after (lastNumber j n)
+      go : (b : Bool) → Alike (cond b (after i (lastCounter j n)) i) (cond b (after j (lastCounter j n)) j)
+      go true = alike-after (lastCounter j n)
       go false = s
 
-pub run-alike : {i j : Issuer} → Alike i j → (ns : List ℕ) (k : ℕ) → grantAt i ns k .number ≡ grantAt j ns k .number
+pub run-alike : {i j : Issuer} → Alike i j → (ns : List ℕ) (k : ℕ) → grantAt i ns k .answer ≡ grantAt j ns k .answer
 unfolding run grant
 run-alike s [] k = refl
 run-alike s (n ∷ ns) zero = alike-answer s n

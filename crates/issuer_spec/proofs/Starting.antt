@@ -11,11 +11,11 @@ use borrow.Author.Tests.{eqb-true, eqb-false, eq-eqb, ne-eqb}
 use Rattle.octets.specs.Answers.{answer}
 use Rattle.octets.specs.Bytes.{number, filled}
 use Rattle.octets.proofs.Bytes.{digits-number, filled-short, filled-all}
-use Rattle.issuer.specs.declared.IvSize.the-variants.{Eight, Sixteen}
-use Rattle.issuer.specs.declared.Issuer.{Issuer}
-use Rattle.issuer.specs.Issuer.{issuer, exhausted, startRows, started, start, vector, grant}
-use Rattle.issuer.specs.Grants.{run, grantAt, advanced}
-use Rattle.issuer.proofs.Order.{never-again, in-order}
+use Rattle.issuer_spec.specs.declared.IvSize.the-variants.{Eight, Sixteen}
+use Rattle.issuer_spec.specs.declared.Issuer.{Issuer}
+use Rattle.issuer_spec.specs.Issuer.{issuer, exhausted, startRows, started, start, vector, grant}
+use Rattle.issuer_spec.specs.Grants.{run, grantAt, advanced}
+use Rattle.issuer_spec.proofs.Order.{never-again, in-order}
 
 abbrev startedEight : List ℕ → Issuer
 startedEight bytes = issuer Eight (replicate 8 0) (number 8 bytes 0) false
@@ -61,20 +61,20 @@ module _ (bytes : List ℕ) where
 
 -- ---- The first grant.
 
--- none accepted before it, so the number stands where it began
-not-advanced : (i : Issuer) (ns : List ℕ) (k : ℕ) → ((j : ℕ) → j < k → grantAt i ns j .number ≡ 0 → ⊥) → advanced i ns k ≡ 0
+-- none accepted before it, so the counter stands where it began
+not-advanced : (i : Issuer) (ns : List ℕ) (k : ℕ) → ((j : ℕ) → j < k → grantAt i ns j .answer ≡ 0 → ⊥) → advanced i ns k ≡ 0
 unfolding run advanced
 not-advanced i ns zero h = refl
 not-advanced i [] (suc k) h = refl
 not-advanced i (n ∷ ns) (suc k) h =
     rw (
-      ne-eqb (grant i n .number) 0 (h 0 (omega arith)),
+      ne-eqb (grant i n .answer) 0 (h 0 (omega arith)),
       not-advanced (grant i n .issuer) ns k (λ j l. h (suc j) (omega arith)),
     )
 
 module _ (bytes : List ℕ) (small : (i : ℕ) → getD bytes i 0 < 256) where
   start-vector : Begun bytes → (start bytes .issuer .«used_up» ≡ true → ⊥)
-      → vector (start bytes .issuer .size) (start bytes .issuer .first) (start bytes .issuer .number) ≡ filled 16 bytes
+      → vector (start bytes .issuer .size) (start bytes .issuer .first) (start bytes .issuer .counter) ≡ filled 16 bytes
   unfolding vector
   start-vector (eight l e) u =
       rw (e, digits-number 8 bytes 0 small (omega arith), take-all 8 bytes (omega arith)) (sym (filled-short 16 bytes (omega arith) ∙ rw l))
@@ -85,9 +85,9 @@ module _ (bytes : List ℕ) (small : (i : ℕ) → getD bytes i 0 < 256) where
   start-vector (refused e) u = absurd (u (rw e))
 
   -- the first accepted grant hands out the start, filled out
-  pub first-grant : (counts : List ℕ) (k : ℕ) → ((j : ℕ) → j < k → grantAt (start bytes .issuer) counts j .number ≡ 0 → ⊥)
-      → grantAt (start bytes .issuer) counts k .number ≡ 0 → grantAt (start bytes .issuer) counts k .vector .0 ≡ filled 16 bytes
+  pub first-grant : (counts : List ℕ) (k : ℕ) → ((j : ℕ) → j < k → grantAt (start bytes .issuer) counts j .answer ≡ 0 → ⊥)
+      → grantAt (start bytes .issuer) counts k .answer ≡ 0 → grantAt (start bytes .issuer) counts k .vector .0 ≡ filled 16 bytes
   first-grant counts k h a =
       let i = start bytes .issuer in
-      let z : i .number + advanced i counts k ≡ i .number = omega (arith, not-advanced i counts k h) in
+      let z : i .counter + advanced i counts k ≡ i .counter = omega (arith, not-advanced i counts k h) in
       in-order i counts k a .handed ∙ rw z (start-vector (begun bytes) (λ u. never-again i u counts k a))

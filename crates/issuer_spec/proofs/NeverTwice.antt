@@ -9,17 +9,17 @@ use Rattle.octets.specs.Bytes.{number, digits}
 use Rattle.octets.proofs.Bytes.{length-digits, number-digits, number-after}
 use Rattle.modes_spec.specs.Modes.{counterAt}
 use Rattle.modes_spec.proofs.Counter.{count-at, head-at, distinct}
-use Rattle.issuer.specs.declared.IvSize.{IvSize}
-use Rattle.issuer.specs.declared.IvSize.the-variants.{Eight, Sixteen}
-use Rattle.issuer.specs.declared.Issuer.{Issuer}
-use Rattle.issuer.specs.Issuer.{largest, vector, advance, start}
-use Rattle.issuer.specs.Grants.{grantAt, advanced, Covers}
-use Rattle.issuer.proofs.Order.{in-order, advanced-later}
-use Rattle.issuer.proofs.Starting.{first-length}
+use Rattle.issuer_spec.specs.declared.IvSize.{IvSize}
+use Rattle.issuer_spec.specs.declared.IvSize.the-variants.{Eight, Sixteen}
+use Rattle.issuer_spec.specs.declared.Issuer.{Issuer}
+use Rattle.issuer_spec.specs.Issuer.{largest, vector, advance, start}
+use Rattle.issuer_spec.specs.Grants.{grantAt, advanced, Covers}
+use Rattle.issuer_spec.proofs.Order.{in-order, advanced-later}
+use Rattle.issuer_spec.proofs.Starting.{first-length}
 
 -- ---- One counter block.
 
--- The number that counter block a of a grant takes up, where v is the grant's own.
+-- The counter that block a of a grant takes up, where v is the grant's own.
 unfoldable takenUp : IvSize → ℕ → ℕ → ℕ
 takenUp Eight v a = v
 takenUp Sixteen v a = v + a
@@ -50,16 +50,16 @@ module _ (f : List ℕ) (l : length f ≡ 8) where
         sym (count-at (vector s f v) (omega (arith, vector-length s v)) a) ∙ ap (λ (x : List ℕ). number 8 x 8) e
         ∙ count-at (vector s f w) (omega (arith, vector-length s w)) b
 
-    -- equal blocks take up the same number
-    same-number : (s : IvSize) → takenUp s v a ≤ largest → takenUp s w b ≤ largest
+    -- equal blocks take up the same counter
+    same-counter : (s : IvSize) → takenUp s v a ≤ largest → takenUp s w b ≤ largest
         → counterAt (vector s f v) a ≡ counterAt (vector s f w) b → takenUp s v a ≡ takenUp s w b
     unfolding takenUp
-    same-number Eight p q e =
+    same-counter Eight p q e =
         let d : digits 8 v ≡ digits 8 w = sym (vector-head v) ∙ heads Eight e ∙ vector-head w in
         sym (number-digits 8 v (omega arith)) ∙ ap (λ (x : List ℕ). number 8 x 0) d ∙ number-digits 8 w (omega arith)
-    same-number Sixteen p q e = omega (arith, counts Sixteen e, vector-count v hv, vector-count w hw)
+    same-counter Sixteen p q e = omega (arith, counts Sixteen e, vector-count v hv, vector-count w hw)
 
--- the blocks of a grant take up fewer numbers than it advances by, so that a later one is past them
+-- the blocks of a grant take up fewer counters than it advances by, so that a later one is past them
 apart : (s : IvSize) (v w n a b : ℕ) → a < n → v + advance s n ≤ w → takenUp s v a < takenUp s w b
 unfolding takenUp advance
 apart Eight v w n a b h l = omega arith
@@ -73,23 +73,23 @@ within Sixteen v n a h l = omega arith
 -- ---- Any list of grants.
 
 module _ (i : Issuer) (l : length (i .first) ≡ 8) (ns : List ℕ) where
-  -- the number of grant k
+  -- the counter of grant k
   abbrev at : ℕ → ℕ
-  at k = i .number + advanced i ns k
+  at k = i .counter + advanced i ns k
 
   -- block a of accepted grant k
-  module _ (k a : ℕ) (h : grantAt i ns k .number ≡ 0) (n : a < getD ns k 0) where
-    number-below : at k ≤ largest
-    number-below = omega (arith, in-order i ns k h .below)
+  module _ (k a : ℕ) (h : grantAt i ns k .answer ≡ 0) (n : a < getD ns k 0) where
+    counter-below : at k ≤ largest
+    counter-below = omega (arith, in-order i ns k h .below)
 
     taken-below : takenUp (i .size) (at k) a ≤ largest
     taken-below = within (i .size) (at k) (getD ns k 0) a n (in-order i ns k h .below)
 
-  module _ (j k a b : ℕ) (hj : grantAt i ns j .number ≡ 0) (hk : grantAt i ns k .number ≡ 0) (nj : a < getD ns j 0)
+  module _ (j k a b : ℕ) (hj : grantAt i ns j .answer ≡ 0) (hk : grantAt i ns k .answer ≡ 0) (nj : a < getD ns j 0)
       (nk : b < getD ns k 0) (e : counterAt (grantAt i ns j .vector .0) a ≡ counterAt (grantAt i ns k .vector .0) b) where
     same-taken : takenUp (i .size) (at j) a ≡ takenUp (i .size) (at k) b
     same-taken =
-        same-number (i .first) l (at j) (at k) a b (number-below j a hj nj) (number-below k b hk nk) (i .size) (taken-below j a hj nj)
+        same-counter (i .first) l (at j) (at k) a b (counter-below j a hj nj) (counter-below k b hk nk) (i .size) (taken-below j a hj nj)
         (taken-below k b hk nk) (rw (in-order i ns j hj .handed, in-order i ns k hk .handed) at e)
 
     not-before : j < k → ⊥
@@ -117,7 +117,7 @@ module _ (bytes counts : List ℕ) (j k : ℕ) (block : List ℕ) (p : Covers by
   same-step =
       let g = in-order i counts j (p .accepted) in
       let h = in-order i counts k (q .accepted) in
-      let v = vector-length (i .first) (first-length bytes) (i .size) (i .number + advanced i counts j) in
+      let v = vector-length (i .first) (first-length bytes) (i .size) (i .counter + advanced i counts j) in
       let l : length (grantAt i counts j .vector .0) ≡ 16 = rw (g .handed) v in
       distinct (grantAt i counts j .vector .0) (omega arith) (p .step) (q .step) (omega (arith, p .named, g .few))
       (omega (arith, q .named, h .few))

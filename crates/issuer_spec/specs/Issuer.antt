@@ -7,11 +7,11 @@ use lib.ListN.{length, take, replicate}
 use Rattle.octets.specs.Answers.{Row, row, answer}
 use Rattle.octets.specs.Bytes.{number, digits}
 use Rattle.track_spec.specs.Track.{zeros}
-use Rattle.issuer.specs.declared.IvSize.{IvSize}
-use Rattle.issuer.specs.declared.IvSize.the-variants.{Eight, Sixteen}
-use Rattle.issuer.specs.declared.Issuer.{Issuer}
-use Rattle.issuer.specs.declared.Started.{Started}
-use Rattle.issuer.specs.declared.Granted.{Granted}
+use Rattle.issuer_spec.specs.declared.IvSize.{IvSize}
+use Rattle.issuer_spec.specs.declared.IvSize.the-variants.{Eight, Sixteen}
+use Rattle.issuer_spec.specs.declared.Issuer.{Issuer}
+use Rattle.issuer_spec.specs.declared.Started.{Started}
+use Rattle.issuer_spec.specs.declared.Granted.{Granted}
 
 -- The largest 64-bit number.
 abbrev pub largest : ℕ
@@ -22,7 +22,7 @@ abbrev pub mostBlocks : ℕ
 mostBlocks = 1048576
 
 abbrev pub issuer : IvSize → List ℕ → ℕ → Bool → Issuer
-issuer size first number usedUp = record { size = size; first = first; number = number; «used_up» = usedUp }
+issuer size first counter usedUp = record { size = size; first = first; counter = counter; «used_up» = usedUp }
 
 -- ---- The start, from 8 or 16 bytes.
 
@@ -33,7 +33,7 @@ exhausted = issuer Eight (replicate 8 0) 0 true
 unfoldable pub startRows : List ℕ → List Row
 startRows bytes = row 31 (not (eqb (length bytes) 8 || eqb (length bytes) 16)) ∷ []
 
--- In size 16 the first eight bytes stay, and the low 64 bits are the number.
+-- In size 16 the first eight bytes stay, and the low 64 bits are the counter.
 unfoldable pub started : List ℕ → Issuer
 started bytes =
     cond (eqb (length bytes) 8) (issuer Eight (replicate 8 0) (number 8 bytes 0) false)
@@ -42,47 +42,47 @@ started bytes =
 unfoldable pub start : List ℕ → Started
 start bytes =
     record {
-      number = answer (startRows bytes);
+      answer = answer (startRows bytes);
       issuer = cond (eqb (answer (startRows bytes)) 0) (started bytes) exhausted;
     }
 
 -- ---- A grant to a sample of n blocks.
 
--- The start vector of a number, filled out to 16 bytes in size 8.
+-- The start vector of counter v, filled out to 16 bytes in size 8.
 unfoldable pub vector : IvSize → List ℕ → ℕ → List ℕ
 vector Eight first v = digits 8 v ++ replicate 8 0
 vector Sixteen first v = first ++ digits 8 v
 
--- By how much the sample advances the number: in size 8 to the next one, in size 16 by its blocks.
+-- By how much the sample advances the counter: in size 8 to the next one, in size 16 by its blocks.
 unfoldable pub advance : IvSize → ℕ → ℕ
 advance Eight n = 1
 advance Sixteen n = n
 
--- The last number that the sample covers: in size 8 the grant's own, in size 16 its last block's.
-unfoldable pub lastNumber : Issuer → ℕ → ℕ
-lastNumber i n = i .number + (advance (i .size) n - 1)
+-- The last counter that the sample covers: in size 8 the grant's own, in size 16 its last block's.
+unfoldable pub lastCounter : Issuer → ℕ → ℕ
+lastCounter i n = i .counter + (advance (i .size) n - 1)
 
 -- 19: a count below 1 or above the most.
 abbrev pub badCount : ℕ → Bool
 badCount n = ltb n 1 || ltb mostBlocks n
 
--- 20: the issuer is used up, or the number, or in size 16 the last block's, would pass the largest.
+-- 20: the issuer is used up, or the counter, or in size 16 the last block's, would pass the largest.
 abbrev pub pastEnd : Issuer → ℕ → Bool
-pastEnd i n = i .«used_up» || ltb largest (lastNumber i n)
+pastEnd i n = i .«used_up» || ltb largest (lastCounter i n)
 
 unfoldable pub grantRows : Issuer → ℕ → List Row
 grantRows i n = row 19 (badCount n) ∷ row 20 (pastEnd i n) ∷ []
 
--- The issuer once all numbers up to `last` are covered: it goes on with the next one, and after the largest it is used up.
+-- The issuer once all counters up to `last` are covered: it goes on with the next one, and after the largest it is used up.
 unfoldable pub after : Issuer → ℕ → Issuer
 after i last =
-    cond (eqb last largest) (issuer (i .size) (i .first) (i .number) true) (issuer (i .size) (i .first) (last + 1) (i .«used_up»))
+    cond (eqb last largest) (issuer (i .size) (i .first) (i .counter) true) (issuer (i .size) (i .first) (last + 1) (i .«used_up»))
 
 -- A refusal changes nothing and hands out zeros.
 unfoldable pub grant : Issuer → ℕ → Granted
 grant i n =
     record {
-      number = answer (grantRows i n);
-      vector = record { 0 = cond (eqb (answer (grantRows i n)) 0) (vector (i .size) (i .first) (i .number)) zeros };
-      issuer = cond (eqb (answer (grantRows i n)) 0) (after i (lastNumber i n)) i;
+      answer = answer (grantRows i n);
+      vector = record { 0 = cond (eqb (answer (grantRows i n)) 0) (vector (i .size) (i .first) (i .counter)) zeros };
+      issuer = cond (eqb (answer (grantRows i n)) 0) (after i (lastCounter i n)) i;
     }

@@ -1,26 +1,19 @@
 -- What a grant answers, by its table, and what follows from the answer.
-use mathlib.Core.Bool.{Bool, true, false, _||_, or-true, true≢false}
-use mathlib.Core.Path.{_≡_, refl}
+use mathlib.Core.Bool.{true, false, or-true}
+use mathlib.Core.Path.{_≡_}
 use Prim.Native.Nat.{ℕ, _≤_, _<_}
 use native.Mathlib.Omega.{arith}
 use lib.Dec.{ltb}
 use borrow.Author.Tests.{ltb-false, lt-ltb, le-ltb, ne-eqb}
 use Rattle.octets.specs.Answers.{answer}
 use Rattle.octets.proofs.Answers.{done-head, done-tail}
+use Rattle.octets.proofs.Tests.{or-false-left, or-false-right}
 use Rattle.track_spec.specs.Track.{zeros}
-use Rattle.issuer.specs.declared.IvSize.{IvSize}
-use Rattle.issuer.specs.declared.IvSize.the-variants.{Eight, Sixteen}
-use Rattle.issuer.specs.declared.Issuer.{Issuer}
-use Rattle.issuer.specs.declared.Granted.{Granted}
-use Rattle.issuer.specs.Issuer.{largest, mostBlocks, vector, advance, lastNumber, badCount, pastEnd, grantRows, after, grant}
-
-||-left : (a b : Bool) → a || b ≡ false → a ≡ false
-||-left true b e = e
-||-left false b e = refl
-
-||-right : (a b : Bool) → a || b ≡ false → b ≡ false
-||-right true b e = absurd (true≢false e)
-||-right false b e = e
+use Rattle.issuer_spec.specs.declared.IvSize.{IvSize}
+use Rattle.issuer_spec.specs.declared.IvSize.the-variants.{Eight, Sixteen}
+use Rattle.issuer_spec.specs.declared.Issuer.{Issuer}
+use Rattle.issuer_spec.specs.declared.Granted.{Granted}
+use Rattle.issuer_spec.specs.Issuer.{largest, mostBlocks, vector, advance, lastCounter, badCount, pastEnd, grantRows, after, grant}
 
 pub advance-some : (s : IvSize) (n : ℕ) → 1 ≤ n → 1 ≤ advance s n
 unfolding advance
@@ -29,14 +22,14 @@ advance-some Sixteen n h = omega arith
 
 -- what an allowed count is
 pub count-some : (n : ℕ) → badCount n ≡ false → 1 ≤ n
-count-some n c = ltb-false n 1 (||-left (ltb n 1) (ltb mostBlocks n) c)
+count-some n c = ltb-false n 1 (or-false-left (ltb n 1) (ltb mostBlocks n) c)
 
 pub count-few : (n : ℕ) → badCount n ≡ false → n ≤ mostBlocks
-count-few n c = ltb-false mostBlocks n (||-right (ltb n 1) (ltb mostBlocks n) c)
+count-few n c = ltb-false mostBlocks n (or-false-right (ltb n 1) (ltb mostBlocks n) c)
 
 -- A refusal hands out zeros and the issuer as it was.
 abbrev pub refusal : ℕ → Issuer → Granted
-refusal k i = record { number = k; vector = record { 0 = zeros }; issuer = i }
+refusal k i = record { answer = k; vector = record { 0 = zeros }; issuer = i }
 
 module _ (i : Issuer) (n : ℕ) where
   pub grant-refused : (k : ℕ) → answer (grantRows i n) ≡ k → (k ≡ 0 → ⊥) → grant i n ≡ refusal k i
@@ -44,11 +37,11 @@ module _ (i : Issuer) (n : ℕ) where
   grant-refused k e h = rw (e, ne-eqb k 0 h)
 
   pub grant-accepted : answer (grantRows i n) ≡ 0
-      → grant i n ≡ record { number = 0; vector = record { 0 = vector (i .size) (i .first) (i .number) }; issuer = after i (lastNumber i n) }
+      → grant i n ≡ record { answer = 0; vector = record { 0 = vector (i .size) (i .first) (i .counter) }; issuer = after i (lastCounter i n) }
   unfolding grant
   grant-accepted e = rw e
 
-  -- ---- The number answered.
+  -- ---- The answer in each case.
 
   pub count-refused : badCount n ≡ true → answer (grantRows i n) ≡ 19
   unfolding grantRows answer
@@ -59,22 +52,22 @@ module _ (i : Issuer) (n : ℕ) where
     unfolding grantRows answer
     used-up h = rw (c, h)
 
-    pub passes-largest : largest < lastNumber i n → answer (grantRows i n) ≡ 20
+    pub passes-largest : largest < lastCounter i n → answer (grantRows i n) ≡ 20
     unfolding grantRows answer
-    passes-largest h = rw (c, lt-ltb largest (lastNumber i n) h, or-true (i .«used_up»))
+    passes-largest h = rw (c, lt-ltb largest (lastCounter i n) h, or-true (i .«used_up»))
 
-    pub fits : i .«used_up» ≡ false → lastNumber i n ≤ largest → answer (grantRows i n) ≡ 0
+    pub fits : i .«used_up» ≡ false → lastCounter i n ≤ largest → answer (grantRows i n) ≡ 0
     unfolding grantRows answer
-    fits u h = rw (c, le-ltb largest (lastNumber i n) h, u)
+    fits u h = rw (c, le-ltb largest (lastCounter i n) h, u)
 
 -- ---- What an accepted grant says.
 
--- The count is allowed, the issuer is not used up, and no number covered passes the largest.
+-- The count is allowed, the issuer is not used up, and no counter covered passes the largest.
 pub record Accepted (i : Issuer) (n : ℕ) : Type 0 where
   pub some : 1 ≤ n
   pub few : n ≤ mostBlocks
   pub left : i .«used_up» ≡ false
-  pub below : lastNumber i n ≤ largest
+  pub below : lastCounter i n ≤ largest
 
 pub accepted : (i : Issuer) (n : ℕ) → answer (grantRows i n) ≡ 0 → Accepted i n
 unfolding grantRows
@@ -84,20 +77,20 @@ accepted i n h =
     record {
       some = count-some n c;
       few = count-few n c;
-      left = ||-left (i .«used_up») (ltb largest (lastNumber i n)) e;
-      below = ltb-false largest (lastNumber i n) (||-right (i .«used_up») (ltb largest (lastNumber i n)) e);
+      left = or-false-left (i .«used_up») (ltb largest (lastCounter i n)) e;
+      below = ltb-false largest (lastCounter i n) (or-false-right (i .«used_up») (ltb largest (lastCounter i n)) e);
     }
 
 -- ---- What a refused grant leaves.
 
 module _ (i : Issuer) (n : ℕ) where
   -- the issuer as it was, and zeros
-  pub refused-stays : (grant i n .number ≡ 0 → ⊥) → (grant i n .issuer ≡ i) × (grant i n .vector .0 ≡ zeros)
+  pub refused-stays : (grant i n .answer ≡ 0 → ⊥) → (grant i n .issuer ≡ i) × (grant i n .vector .0 ≡ zeros)
   unfolding grant
   refused-stays h = (rw (ne-eqb (answer (grantRows i n)) 0 h), rw (ne-eqb (answer (grantRows i n)) 0 h))
 
   -- so one refused for too large a count leaves the issuer usable for a smaller one
-  pub smaller-granted : (grant i n .number ≡ 0 → ⊥) → (m : ℕ) → badCount m ≡ false → i .«used_up» ≡ false
-      → lastNumber i m ≤ largest → grant (grant i n .issuer) m .number ≡ 0
+  pub smaller-granted : (grant i n .answer ≡ 0 → ⊥) → (m : ℕ) → badCount m ≡ false → i .«used_up» ≡ false
+      → lastCounter i m ≤ largest → grant (grant i n .issuer) m .answer ≡ 0
   unfolding grant
   smaller-granted h m c u l = rw (ne-eqb (answer (grantRows i n)) 0 h) (fits i m c u l)

@@ -18,14 +18,14 @@ use Rattle.scheme.specs.Counters.{blocksNeeded, counterBlocks}
 use Rattle.scheme.proofs.Counters.{count-total}
 use Rattle.sample.proofs.Accepted.{accepted-length}
 use Rattle.sample.proofs.Counters.{blocks-fit}
-use Rattle.issuer.specs.declared.IvSize.the-variants.{Eight, Sixteen}
-use Rattle.issuer.specs.declared.Issuer.{Issuer}
-use Rattle.issuer.specs.Issuer.{mostBlocks, start, vector, badCount}
-use Rattle.issuer.specs.Grants.{grantAt, advanced, Covers}
-use Rattle.issuer.specs.Archive.{Sample, parameters, layout, ivOf, answerTo, needed, blockOf, LockedWith}
-use Rattle.issuer.proofs.Order.{never-again, in-order}
-use Rattle.issuer.proofs.Starting.{Begun, eight, sixteen, refused, begun, first-length}
-use Rattle.issuer.proofs.NeverTwice.{vector-length, never-twice}
+use Rattle.issuer_spec.specs.declared.IvSize.the-variants.{Eight, Sixteen}
+use Rattle.issuer_spec.specs.declared.Issuer.{Issuer}
+use Rattle.issuer_spec.specs.Issuer.{mostBlocks, start, vector, badCount}
+use Rattle.issuer_spec.specs.Grants.{grantAt, advanced, Covers}
+use Rattle.issuer_spec.specs.Archive.{Sample, parameters, layout, ivOf, answerTo, needed, blockOf, LockedWith}
+use Rattle.issuer_spec.proofs.Order.{never-again, in-order}
+use Rattle.issuer_spec.proofs.Starting.{Begun, eight, sixteen, refused, begun, first-length}
+use Rattle.issuer_spec.proofs.NeverTwice.{vector-length, never-twice}
 
 -- ---- How many blocks a sample needs.
 
@@ -86,7 +86,7 @@ filled-sixteen f v l =
     rw (take-all 16 (vector Sixteen f v) (omega arith)) (filled-all 16 (vector Sixteen f v) n)
 
 -- Auxiliary data that begins with a granted start vector, as many bytes of it as the issuer was started from, has that IV.
-module _ (bytes counts : List ℕ) (k : ℕ) (a : grantAt (start bytes .issuer) counts k .number ≡ 0) (p : Parameters)
+module _ (bytes counts : List ℕ) (k : ℕ) (a : grantAt (start bytes .issuer) counts k .answer ≡ 0) (p : Parameters)
     (s : p .«iv_size» ≡ length bytes) (aux : List ℕ)
     (e : take (length bytes) aux ≡ take (length bytes) (grantAt (start bytes .issuer) counts k .vector .0)) where
   abbrev i : Issuer
@@ -95,11 +95,11 @@ module _ (bytes counts : List ℕ) (k : ℕ) (a : grantAt (start bytes .issuer) 
   granted-vector : Begun bytes
       → (filled 16 (take (length bytes) (grantAt i counts k .vector .0)) ≡ grantAt i counts k .vector .0) × (0 < length bytes)
   granted-vector (eight l f) =
-      let v = i .number + advanced i counts k in
+      let v = i .counter + advanced i counts k in
       let h : grantAt i counts k .vector .0 ≡ vector Eight (i .first) v = in-order i counts k a .handed ∙ rw f in
       (rw (l, h) (filled-eight (i .first) v), omega arith)
   granted-vector (sixteen l f) =
-      let v = i .number + advanced i counts k in
+      let v = i .counter + advanced i counts k in
       let h : grantAt i counts k .vector .0 ≡ vector Sixteen (i .first) v = in-order i counts k a .handed ∙ rw f in
       (rw (l, h) (filled-sixteen (i .first) v (first-length bytes)), omega arith)
   granted-vector (refused f) = absurd (never-again i (rw f) counts k a)
