@@ -1,4 +1,4 @@
--- What a valid volume has, field by field, and what the tables answer of it.
+-- What a valid volume has, field by field, and the same by the trailer as the code reads it.
 use mathlib.Core.Bool.{Bool, true, false, _&&_, true≢false}
 use mathlib.Core.List.{List}
 use mathlib.Core.Path.{_≡_, refl, sym, _∙_}

@@ -54,15 +54,17 @@ sub-copy-2 c = part-copy-start-2 c
 
 returns : tie.Need-returns
 returns c =
-    let p5 = c .before .before in
-    let p4 = entry-stored p5 in
-    let p3 = entries-stored p4 in
-    let p2 = record-stored p3 in
-    let p1 = front-stored p2 in
-    let old = trailer-read p1 in
+    let trailer = c .before .before in
+    let entry = entry-stored trailer in
+    let earlier = entries-stored entry in
+    let new = record-stored earlier in
+    let front = front-stored new in
+    let old = trailer-read front in
     let given = start old .pre in
-    added-stored _ _ _ _ (valid-has _ (given .0)) _ (given .1) _ (old .read-trailer .ensures) _ _ _ _ _ (p1 .copy .ensures)
-    (p2 .copy2 .ensures) (p3 .copy3 .ensures) (p4 .store-fields .ensures) (p5 .store-fields2 .ensures)
+    let whole = filled old in
+    added-stored _ _ _ _ (valid-has _ (given .0)) _ (given .1) _ (old .read-trailer .ensures)
+    (front .copy .ensures) (new .copy2 .ensures) (earlier .copy3 .ensures) (entry .store-fields .ensures) (trailer .store-fields2 .ensures)
+    (omega arith) (omega arith) (omega arith) (omega (arith, whole))
 
 pub store-spec : {M : Type 1} → statement M
 store-spec =

@@ -38,8 +38,8 @@ returns-3 c =
     let p2 = second p3 in
     let p1 = first p2 in
     let fits = room p1 in
-    fields-stored _ _ _ _ _ _ (omega (arith, fits .if2 .left, fits .before .if1 .left)) _ _ _ _ (p1 .put64 .ensures)
-    (p2 .put642 .ensures) (p3 .put32 .ensures) (p4 .put322 .ensures)
+    fields-stored _ _ _ _ _ _ (omega (arith, fits .if2 .left, fits .before .if1 .left))
+    (p1 .put64 .ensures) (p2 .put642 .ensures) (p3 .put32 .ensures) (p4 .put322 .ensures)
 
 pub store-fields-spec : {M : Type 1} → statement M
 store-fields-spec =
