@@ -35,8 +35,9 @@ within c = rw (← (advanced c .advance .ensures)) (omega (arith, c .if3 .left))
 
 returns : tie.Need-returns
 returns c =
+    let a = c .before .before .before .args in
     let bad = sym (c .before .before .bad-count .ensures) ∙ c .before .if1 .taken in
-    c .refused .ensures ∙ sym (grant-refused _ _ 19 (count-refused _ _ bad) (λ e. omega arith))
+    c .refused .ensures ∙ sym (grant-refused (a .issuer) (a .blocks) 19 (count-refused _ _ bad) (λ e. omega arith))
 
 returns-2 : tie.Need-returns-2
 returns-2 c =
