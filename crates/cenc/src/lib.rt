@@ -3,7 +3,7 @@ ghost use mathlib.Core.Path.{_≡_};
 ghost use lib.ListN.{length};
 ghost use Rattle.octets.specs.Answers.{answer};
 ghost use Rattle.modes_spec.specs.declared.Direction.the-variants.{Lock, Open};
-ghost use Rattle.sample.specs.Sample.{sampleRows, sampleAfter};
+ghost use Rattle.sample_spec.specs.Sample.{sampleRows, sampleAfter};
 
 #[no_mangle]
 pub extern "C" fn cenc_lock(

@@ -16,8 +16,8 @@ use Rattle.subsample_spec.specs.Auxiliary.{ivRead}
 use Rattle.scheme.specs.Layout.{schemeOf}
 use Rattle.scheme.specs.Counters.{blocksNeeded, counterBlocks}
 use Rattle.scheme.proofs.Counters.{count-total}
-use Rattle.sample.proofs.Accepted.{accepted-length}
-use Rattle.sample.proofs.Counters.{blocks-fit}
+use Rattle.sample_spec.proofs.Accepted.{accepted-length}
+use Rattle.sample_spec.proofs.Counters.{blocks-fit}
 use Rattle.issuer_spec.specs.declared.IvSize.the-variants.{Eight, Sixteen}
 use Rattle.issuer_spec.specs.declared.Issuer.{Issuer}
 use Rattle.issuer_spec.specs.Issuer.{mostBlocks, start, vector, badCount}

@@ -11,7 +11,7 @@ use Rattle.subsample_spec.specs.Auxiliary.{mapRead, ivRead}
 use Rattle.scheme.specs.Layout.{schemeOf, Entry}
 use Rattle.scheme.specs.Part.{entriesOf}
 use Rattle.scheme.specs.Counters.{blocksNeeded, counterBlocks}
-use Rattle.sample.specs.Sample.{sampleRows}
+use Rattle.sample_spec.specs.Sample.{sampleRows}
 use Rattle.issuer_spec.specs.Issuer.{start}
 use Rattle.issuer_spec.specs.Grants.{grantAt}
 

@@ -12,8 +12,8 @@ use Rattle.track_spec.specs.declared.Parameters.{Parameters}
 use Rattle.track_spec.specs.Track.{fields}
 use Rattle.subsample_spec.specs.Auxiliary.{mapRead, ivRead}
 use Rattle.subsample_spec.specs.declared.SubsampleMap.{SubsampleMap}
-use Rattle.sample.specs.Sample.{keyIn, sampleRows}
-use Rattle.sample.proofs.RoundTrip.{length-after}
+use Rattle.sample_spec.specs.Sample.{keyIn, sampleRows}
+use Rattle.sample_spec.proofs.RoundTrip.{length-after}
 use Rattle.stream.specs.declared.Stream.{Stream}
 use Rattle.stream.specs.declared.Started.{Started}
 use Rattle.stream.specs.Stream.{start, due, fedBy, feed, outputAfter, end}

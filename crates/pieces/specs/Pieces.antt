@@ -6,7 +6,7 @@ use lib.Dec.{eqb, ltb}
 use lib.ListN.{length, drop}
 use Rattle.octets.specs.Answers.{answer}
 use Rattle.modes_spec.specs.declared.Direction.the-variants.{Open}
-use Rattle.sample.specs.Sample.{sampleRows, sampleAfter}
+use Rattle.sample_spec.specs.Sample.{sampleRows, sampleAfter}
 
 module _ (code box aux keys xs out : List ℕ) where
   -- The start's number, 1 to 12; then 15 if the output is shorter than the sample.

@@ -1,40 +1,28 @@
 // A whole sample, locked and opened in place (document 01, "Which bytes are ciphered, and how").
-pub mod refusal;
-
 ghost use mathlib.Core.Path.{_≡_};
 ghost use lib.ListN.{length};
 ghost use Rattle.octets.specs.Answers.{answer};
+ghost use Rattle.aes.specs.Block.{roundKeys, encipher, decipher};
 ghost use Rattle.modes_spec.specs.declared.Direction.the-variants.{Lock, Open};
 ghost use Rattle.track_spec.specs.Track.{zeros, unprotected};
 ghost use Rattle.subsample_spec.specs.Auxiliary.{emptyMap};
-ghost use Rattle.sample.specs.Sample as spec;
+ghost use Rattle.scheme.specs.Part.{transformed};
+ghost use Rattle.sample_spec.specs.Sample as spec;
 use aes::Key;
 use modes::Direction;
+pub use sample_spec::InputsRead;
+pub use sample_spec::KeyFound;
+pub use sample_spec::refusal;
 use subsample::SubsampleMap;
 use track::Parameters;
 use track::StartVector;
 use track::refusal::DONE;
 
-// What finding a key answers.
-pub struct KeyFound {
-    pub number: u8,
-    pub key: Key,
-}
-
-// What reading the inputs of a sample answers.
-pub struct Inputs {
-    pub number: u8,
-    pub parameters: Parameters,
-    pub key: Key,
-    pub map: SubsampleMap,
-    pub iv: StartVector,
-}
-
-fn no_key(number: u8) -> KeyFound
-    ensures { λ r. ⌜ r ≡ record { number = number; key = record { 0 = zeros } } ⌝ }
+fn no_key(answer: u8) -> KeyFound
+    ensures { λ r. ⌜ r ≡ record { answer = answer; key = record { 0 = zeros } } ⌝ }
 {
     KeyFound {
-        number,
+        answer,
         key: Key::new([0; Key::SIZE]),
     }
 }
@@ -54,16 +42,16 @@ pub fn find_key(parameters: Parameters, key_record: &[u8]) -> KeyFound
         return no_key(refusal::KID);
     }
     KeyFound {
-        number: DONE,
+        answer: DONE,
         key: Key::new(octets::sixteen_at(key_record, 16)),
     }
 }
 
-fn refused(number: u8) -> Inputs
-    ensures { λ r. ⌜ r ≡ record { number = number; parameters = unprotected; key = record { 0 = zeros }; map = emptyMap; iv = record { 0 = zeros } } ⌝ }
+fn refused(answer: u8) -> InputsRead
+    ensures { λ r. ⌜ r ≡ record { answer = answer; parameters = unprotected; key = record { 0 = zeros }; map = emptyMap; iv = record { 0 = zeros } } ⌝ }
 {
-    Inputs {
-        number,
+    InputsRead {
+        answer,
         parameters: Parameters::unprotected(),
         key: Key::new([0; Key::SIZE]),
         map: SubsampleMap::empty(),
@@ -78,27 +66,27 @@ pub fn read_inputs(
     auxiliary: &[u8],
     key_record: &[u8],
     sample_length: usize,
-) -> Inputs
-    ensures { λ r. ⌜ r ≡ spec.readInputs (now (code .entry)) (now («track_box» .entry)) (now (auxiliary .entry)) (now («key_record» .entry)) «sample_length» ⌝ }
+) -> InputsRead
+    ensures { λ r. ⌜ r ≡ spec.readInputs (spec.inputs (now (code .entry)) (now («track_box» .entry)) (now (auxiliary .entry)) (now («key_record» .entry))) «sample_length» ⌝ }
 {
     let track = track::read(code, track_box);
-    if track.number != DONE {
-        return refused(track.number);
+    if track.answer != DONE {
+        return refused(track.answer);
     }
     let parameters = track.parameters;
     let found = find_key(parameters, key_record);
-    if found.number != DONE {
-        return refused(found.number);
+    if found.answer != DONE {
+        return refused(found.answer);
     }
-    let read = subsample::read_under(parameters, sample_length, auxiliary);
-    if read.number != DONE {
-        return refused(read.number);
+    let read = subsample::read_under(parameters, auxiliary, sample_length);
+    if read.answer != DONE {
+        return refused(read.answer);
     }
     let key = found.key;
     let map = read.map;
     let iv = read.iv;
-    Inputs {
-        number: DONE,
+    InputsRead {
+        answer: DONE,
         parameters,
         key,
         map,
@@ -106,22 +94,11 @@ pub fn read_inputs(
     }
 }
 
-// Locks or opens a sample where it lies: 1 to 12. A refusal changes nothing.
-fn process(
-    direction: Direction,
-    code: &[u8],
-    track_box: &[u8],
-    auxiliary: &[u8],
-    key_record: &[u8],
-    sample: &mut [u8],
-) -> u8
-    ensures { λ r. ⌜ (r ≡ answer (spec.sampleRows (now (code .entry)) (now («track_box» .entry)) (now (auxiliary .entry)) (now («key_record» .entry)) (length (now (sample .entry)))))
-        × (now (sample .exit) ≡ spec.sampleAfter direction (now (code .entry)) (now («track_box» .entry)) (now (auxiliary .entry)) (now («key_record» .entry)) (now (sample .entry))) ⌝ }
+// Ciphers a whole sample where it lies, under inputs that were read.
+fn transform(direction: Direction, inputs: InputsRead, sample: &mut [u8])
+    ensures { λ r. ⌜ now (sample .exit) ≡ transformed (encipher (roundKeys (inputs .key .0))) (decipher (roundKeys (inputs .key .0))) direction
+        (inputs .parameters) (inputs .map) (length (now (sample .entry))) 0 (inputs .iv .0) (now (sample .entry)) .released ⌝ }
 {
-    let inputs = read_inputs(code, track_box, auxiliary, key_record, sample.len());
-    if inputs.number != DONE {
-        return inputs.number;
-    }
     let key = inputs.key;
     let iv = inputs.iv;
     let parameters = inputs.parameters;
@@ -136,6 +113,25 @@ fn process(
         iv.bytes(),
         sample,
     );
+}
+
+// Locks or opens a sample where it lies: 1 to 12. A refusal changes nothing.
+fn process(
+    direction: Direction,
+    code: &[u8],
+    track_box: &[u8],
+    auxiliary: &[u8],
+    key_record: &[u8],
+    sample: &mut [u8],
+) -> u8
+    ensures { λ r. ⌜ (r ≡ answer (spec.sampleRows (spec.inputs (now (code .entry)) (now («track_box» .entry)) (now (auxiliary .entry)) (now («key_record» .entry))) (length (now (sample .entry)))))
+        × (now (sample .exit) ≡ spec.sampleAfter direction (spec.inputs (now (code .entry)) (now («track_box» .entry)) (now (auxiliary .entry)) (now («key_record» .entry))) (now (sample .entry))) ⌝ }
+{
+    let inputs = read_inputs(code, track_box, auxiliary, key_record, sample.len());
+    if inputs.answer != DONE {
+        return inputs.answer;
+    }
+    transform(direction, inputs, sample);
     DONE
 }
 
@@ -147,8 +143,8 @@ pub fn lock(
     key_record: &[u8],
     sample: &mut [u8],
 ) -> u8
-    ensures { λ r. ⌜ (r ≡ answer (spec.sampleRows (now (code .entry)) (now («track_box» .entry)) (now (auxiliary .entry)) (now («key_record» .entry)) (length (now (sample .entry)))))
-        × (now (sample .exit) ≡ spec.sampleAfter Lock (now (code .entry)) (now («track_box» .entry)) (now (auxiliary .entry)) (now («key_record» .entry)) (now (sample .entry))) ⌝ }
+    ensures { λ r. ⌜ (r ≡ answer (spec.sampleRows (spec.inputs (now (code .entry)) (now («track_box» .entry)) (now (auxiliary .entry)) (now («key_record» .entry))) (length (now (sample .entry)))))
+        × (now (sample .exit) ≡ spec.sampleAfter Lock (spec.inputs (now (code .entry)) (now («track_box» .entry)) (now (auxiliary .entry)) (now («key_record» .entry))) (now (sample .entry))) ⌝ }
 {
     process(
         Direction::Lock,
@@ -168,8 +164,8 @@ pub fn open(
     key_record: &[u8],
     sample: &mut [u8],
 ) -> u8
-    ensures { λ r. ⌜ (r ≡ answer (spec.sampleRows (now (code .entry)) (now («track_box» .entry)) (now (auxiliary .entry)) (now («key_record» .entry)) (length (now (sample .entry)))))
-        × (now (sample .exit) ≡ spec.sampleAfter Open (now (code .entry)) (now («track_box» .entry)) (now (auxiliary .entry)) (now («key_record» .entry)) (now (sample .entry))) ⌝ }
+    ensures { λ r. ⌜ (r ≡ answer (spec.sampleRows (spec.inputs (now (code .entry)) (now («track_box» .entry)) (now (auxiliary .entry)) (now («key_record» .entry))) (length (now (sample .entry)))))
+        × (now (sample .exit) ≡ spec.sampleAfter Open (spec.inputs (now (code .entry)) (now («track_box» .entry)) (now (auxiliary .entry)) (now («key_record» .entry))) (now (sample .entry))) ⌝ }
 {
     process(
         Direction::Open,

@@ -11,9 +11,9 @@ use Rattle.track_spec.specs.declared.Parameters.{Parameters}
 use Rattle.track_spec.specs.Track.{fields, parameterRows, writeRows}
 use Rattle.track_spec.proofs.RoundTrip.{read-accepted}
 use Rattle.subsample_spec.specs.Auxiliary.{countWritten, entryCount, mapRead}
-use Rattle.sample.specs.Sample.{sampleRows}
-use Rattle.sample.proofs.Tables.{box-accepted}
-use Rattle.sample.proofs.Accepted.{length-allowed, map-accepted}
+use Rattle.sample_spec.specs.Sample.{sampleRows}
+use Rattle.sample_spec.proofs.Tables.{box-accepted}
+use Rattle.sample_spec.proofs.Accepted.{length-allowed, map-accepted}
 use Rattle.stream.proofs.Reached.{Rules}
 
 module _ (code box aux keys : List ℕ) (n : ℕ) (h : answer (sampleRows code box aux keys n) ≡ 0) where

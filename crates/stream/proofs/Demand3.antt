@@ -20,8 +20,8 @@ use Rattle.scheme.specs.Machine as machine
 use Rattle.scheme.specs.Part.{entriesOf, ciphered, heldUnder, feedUnder}
 use Rattle.scheme.proofs.Holding.{held-small}
 use Rattle.scheme.proofs.Under.{fed-released, fed-whole}
-use Rattle.sample.specs.Sample.{keyIn, sampleRows, cipheredBy, sampleAfter}
-use Rattle.sample.proofs.Accepted.{accepted-length, begins}
+use Rattle.sample_spec.specs.Sample.{keyIn, sampleRows, cipheredBy, sampleAfter}
+use Rattle.sample_spec.proofs.Accepted.{accepted-length, begins}
 use Rattle.stream.specs.declared.Stream.{Stream}
 use Rattle.stream.specs.Stream.{started, start, feedRows, feed, outputAfter, end}
 use Rattle.stream.specs.Demand3.{Call, Feeding, Ending, lent, Reply, reply, countAt, ending, replyAt, pieceAt, account, accepted, make, run, recordAfter, replies, released, Unchanged, heldFrom, pieces, Demand3}

@@ -16,8 +16,8 @@ use Rattle.track_spec.proofs.Depends.{AlikeParameters, write-alike}
 use Rattle.track_spec.proofs.Depends as track
 use Rattle.subsample_spec.specs.declared.SubsampleMap.{SubsampleMap}
 use Rattle.scheme.specs.Part.{entriesOf, heldUnder}
-use Rattle.sample.specs.Sample.{sampleRows}
-use Rattle.sample.proofs.Depends.{AlikeInputs, boxes-alike, maps-alike, inputs-alike}
+use Rattle.sample_spec.specs.Sample.{sampleRows}
+use Rattle.sample_spec.proofs.Depends.{AlikeInputs, boxes-alike, maps-alike, inputs-alike}
 use Rattle.stream.specs.declared.Stream.{Stream}
 use Rattle.stream.specs.Stream.{sound, idle, started, start, withState, due, feedRows, fedBy, feed, endRows, end}
 use Rattle.stream.specs.Demand3.{Call, Feeding, Ending, Reply, reply, make, run, replies}

@@ -21,7 +21,7 @@ use Rattle.scheme.specs.Layout.{schemeOf}
 use Rattle.scheme.specs.Held.{heldAt}
 use Rattle.scheme.specs.Part.{entriesOf, heldUnder}
 use Rattle.scheme.proofs.Holding.{held-small, held-low}
-use Rattle.sample.specs.Sample.{sampleRows}
+use Rattle.sample_spec.specs.Sample.{sampleRows}
 use Rattle.stream.specs.declared.Stream.{Stream}
 use Rattle.stream.specs.Stream.{heldBy, sound, idle, started, start, stateOf, withState, due, feedRows, fedBy, feed}
 use Rattle.stream.proofs.Reached.{Rules, heldAt-start, from-position, from-held}

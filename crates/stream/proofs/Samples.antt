@@ -17,7 +17,7 @@ use Rattle.scheme.specs.WholeSample.{over, whole}
 use Rattle.scheme.specs.Held.{place, inPlace, inBlock, heldAt}
 use Rattle.scheme.specs.Part.{protectedEntries, entriesOf, heldUnder}
 use Rattle.scheme.specs.Counters.{blocksNeeded, counterBlocks}
-use Rattle.sample.specs.Sample.{keyRows, sampleRows}
+use Rattle.sample_spec.specs.Sample.{keyRows, sampleRows}
 use Rattle.stream.specs.Demand3.{Call, Feeding, Reply, countAt, dueAt, feeding, replyAt, pieceAt, account}
 
 -- What the definitions make of a sample, and what document 01 says of it, as lists of numbers.

@@ -6,9 +6,9 @@ use borrow.Author.Tests.{ne-eqb}
 use Rattle.octets.specs.Answers.{answer}
 use Rattle.modes_spec.specs.declared.Direction.{Direction}
 use Rattle.track_spec.specs.Track.{zeros}
-use Rattle.sample.specs.declared.Inputs.{Inputs}
-use Rattle.sample.specs.Sample.{sampleRows, handedOut, readInputs}
-use Rattle.sample.proofs.Tables.{inputs-accepted}
+use Rattle.sample_spec.specs.declared.Inputs.{Inputs}
+use Rattle.sample_spec.specs.Sample.{sampleRows, handedOut, readInputs}
+use Rattle.sample_spec.proofs.Tables.{inputs-accepted}
 use Rattle.stream.specs.Stream.{idle, started, start}
 
 module _ (d : Direction) (code box aux keys : List ℕ) (n : ℕ) (i : Inputs) (ei : i ≡ readInputs code box aux keys n) where

@@ -9,7 +9,7 @@ use Rattle.modes_spec.specs.declared.Direction.{Direction}
 use Rattle.track_spec.specs.Track.{fields}
 use Rattle.subsample_spec.specs.Auxiliary.{mapRead}
 use Rattle.scheme.specs.Part.{heldUnder}
-use Rattle.sample.specs.Sample.{sampleAfter}
+use Rattle.sample_spec.specs.Sample.{sampleAfter}
 use Rattle.stream.specs.declared.Stream.{Stream}
 use Rattle.stream.specs.Stream.{start, feed, outputAfter, end}
 

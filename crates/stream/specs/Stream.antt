@@ -12,7 +12,7 @@ use Rattle.track_spec.specs.Track.{zeros, fields, unprotected, parameterRows}
 use Rattle.subsample_spec.specs.Auxiliary.{longest, emptyMap, mapRows, mapRead, ivRead}
 use Rattle.scheme.specs.Machine.{State, Stepped}
 use Rattle.scheme.specs.Part.{heldUnder, feedUnder}
-use Rattle.sample.specs.Sample.{keyIn, sampleRows}
+use Rattle.sample_spec.specs.Sample.{keyIn, sampleRows}
 use Rattle.stream.specs.declared.Stream.{Stream}
 use Rattle.stream.specs.declared.Started.{Started}
 use Rattle.stream.specs.declared.Fed.{Fed}

@@ -1,4 +1,5 @@
 pub mod Codes
+pub mod Fields
 pub mod Checking
 pub mod RoundTrip
 pub mod Storing

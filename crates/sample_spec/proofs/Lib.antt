@@ -1,5 +1,5 @@
 pub mod Tables
 pub mod Accepted
-pub mod RoundTrip
 pub mod Counters
+pub mod RoundTrip
 pub mod Depends

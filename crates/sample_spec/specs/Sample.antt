@@ -1,0 +1,98 @@
+-- Document 01, "Numbers answered, in the order tried": what a caller hands in for a sample, the key record (5 and 6), and a whole
+-- sample locked or opened (1 to 12).
+use mathlib.Core.Bool.{cond, not, _&&_}
+use mathlib.Core.List.{List, [], _∷_, _++_}
+use Prim.Native.Nat.{ℕ, _<_}
+use lib.Dec.{eqb}
+use lib.ListN.{length, getD, take, drop}
+use Rattle.octets.specs.Answers.{Row, row, answer}
+use Rattle.octets.specs.Bytes.{same, filled}
+use Rattle.aes.specs.Block.{roundKeys, encipher, decipher}
+use Rattle.modes_spec.specs.declared.Direction.{Direction}
+use Rattle.track_spec.specs.declared.Parameters.{Parameters}
+use Rattle.track_spec.specs.Track.{zeros, fields, readRows, unprotected}
+use Rattle.subsample_spec.specs.declared.SubsampleMap.{SubsampleMap}
+use Rattle.subsample_spec.specs.Auxiliary.{emptyMap, mapRead, ivRead, auxiliaryRows}
+use Rattle.scheme.specs.Part.{ciphered}
+use Rattle.sample_spec.specs.declared.KeyFound.{KeyFound}
+use Rattle.sample_spec.specs.declared.InputsRead.{InputsRead}
+
+-- What a caller hands in for a sample: the scheme's code, the track box, the auxiliary data and the key record.
+pub record Inputs : Type 0 where
+  pub code : List ℕ
+  pub box : List ℕ
+  pub auxiliary : List ℕ
+  pub keys : List ℕ
+
+abbrev pub inputs : List ℕ → List ℕ → List ℕ → List ℕ → Inputs
+inputs code box auxiliary keys = record { code = code; box = box; auxiliary = auxiliary; keys = keys }
+
+-- Box and auxiliary data are bytes, as every caller's are.
+pub record OfBytes (i : Inputs) : Type 0 where
+  pub box : (k : ℕ) → getD (i .box) k 0 < 256
+  pub auxiliary : (k : ℕ) → getD (i .auxiliary) k 0 < 256
+
+-- ---- The key record.
+
+-- It holds KID and key. For an unprotected track it is not looked at.
+unfoldable pub keyRows : Parameters → List ℕ → List Row
+keyRows p keys =
+    row 5 (eqb (p .protected) 1 && not (eqb (length keys) 32))
+    ∷ row 6 (eqb (p .protected) 1 && not (same (take 16 keys) (p .kid .0))) ∷ []
+
+-- The key; zeros for an unprotected track.
+unfoldable pub keyIn : Parameters → List ℕ → List ℕ
+keyIn p keys = cond (eqb (p .protected) 1) (filled 16 (drop 16 keys)) zeros
+
+-- What finding the key for some parameters answers; zeros if refused.
+unfoldable pub findKey : Parameters → List ℕ → KeyFound
+findKey p keys =
+    record {
+      answer = answer (keyRows p keys);
+      key = record { 0 = cond (eqb (answer (keyRows p keys)) 0) (keyIn p keys) zeros };
+    }
+
+-- ---- What the inputs say.
+
+-- The parameters that apply to the sample, and under them the key, the map and the IV.
+unfoldable pub parametersOf : Inputs → Parameters
+parametersOf i = fields (i .code) (i .box)
+
+unfoldable pub keyOf : Inputs → List ℕ
+keyOf i = keyIn (parametersOf i) (i .keys)
+
+unfoldable pub mapOf : Inputs → SubsampleMap
+mapOf i = mapRead (parametersOf i) (i .auxiliary)
+
+unfoldable pub ivOf : Inputs → List ℕ
+ivOf i = ivRead (parametersOf i) (i .auxiliary)
+
+-- 1 to 4 of the box, 5 and 6 of the key record, 7 to 12 of the auxiliary data, for a sample of n bytes.
+unfoldable pub sampleRows : Inputs → ℕ → List Row
+sampleRows i n =
+    readRows (i .code) (i .box) ++ (keyRows (parametersOf i) (i .keys) ++ auxiliaryRows (parametersOf i) (i .auxiliary) n)
+
+-- What is handed out with an answer: what the inputs say, or after a refusal what an empty unprotected track would.
+unfoldable pub handedOut : ℕ → Inputs → InputsRead
+handedOut answer i =
+    record {
+      answer = answer;
+      parameters = cond (eqb answer 0) (parametersOf i) unprotected;
+      key = record { 0 = cond (eqb answer 0) (keyOf i) zeros };
+      map = cond (eqb answer 0) (mapOf i) emptyMap;
+      iv = record { 0 = cond (eqb answer 0) (ivOf i) zeros };
+    }
+
+unfoldable pub readInputs : Inputs → ℕ → InputsRead
+readInputs i n = handedOut (answer (sampleRows i n)) i
+
+-- ---- The sample.
+
+-- Its bytes under accepted inputs.
+unfoldable pub cipheredBy : Direction → Inputs → List ℕ → List ℕ
+cipheredBy d i xs =
+    ciphered (encipher (roundKeys (keyOf i))) (decipher (roundKeys (keyOf i))) d (parametersOf i) (mapOf i) (ivOf i) xs
+
+-- The sample after the call; a refusal changes nothing.
+unfoldable pub sampleAfter : Direction → Inputs → List ℕ → List ℕ
+sampleAfter d i xs = cond (eqb (answer (sampleRows i (length xs))) 0) (cipheredBy d i xs) xs
