@@ -14,14 +14,14 @@ use Rattle.subsample_spec.specs.Auxiliary.{mapRead, ivRead}
 use Rattle.subsample_spec.specs.declared.SubsampleMap.{SubsampleMap}
 use Rattle.sample_spec.specs.Sample.{keyIn, sampleRows}
 use Rattle.sample_spec.proofs.RoundTrip.{length-after}
-use Rattle.stream.specs.declared.Stream.{Stream}
-use Rattle.stream.specs.declared.Started.{Started}
-use Rattle.stream.specs.Stream.{start, due, fedBy, feed, outputAfter, end}
-use Rattle.stream.specs.Demand3.{Feeding, Ending, Reply, countAt, dueAt, feeding, ending, replyAt, pieceAt, make, heldFrom}
-use Rattle.stream.proofs.Accepted.{rules}
-use Rattle.stream.proofs.Reached.{Rules, fed, at, at-sum, Moves, moves}
-use Rattle.stream.proofs.Feeding.{released-fits}
-use Rattle.stream.proofs.Demand3.{accepts, begun, all-of-it}
+use Rattle.stream_spec.specs.declared.Stream.{Stream}
+use Rattle.stream_spec.specs.declared.Started.{Started}
+use Rattle.stream_spec.specs.Stream.{start, due, fedBy, feed, outputAfter, end}
+use Rattle.stream_spec.specs.Demand3.{Feeding, Ending, Reply, countAt, dueAt, feeding, ending, replyAt, pieceAt, make, heldFrom}
+use Rattle.stream_spec.proofs.Accepted.{rules}
+use Rattle.stream_spec.proofs.Reached.{Rules, fed, at, at-sum, Moves, moves}
+use Rattle.stream_spec.proofs.Feeding.{released-fits}
+use Rattle.stream_spec.proofs.Demand3.{accepts, begun, all-of-it}
 use Rattle.pieces.specs.Pieces.{number, output}
 
 none : (l : List ℕ) → length l ≡ 0 → l ≡ []

@@ -2,7 +2,7 @@
 ghost use mathlib.Core.Path.{_≡_};
 ghost use Prim.Native.Nat.{min, max};
 ghost use lib.ListN.{length};
-ghost use Rattle.stream.specs.Stream as streams;
+ghost use Rattle.stream_spec.specs.Stream as streams;
 ghost use Rattle.pieces.specs.Pieces as spec;
 use modes::Direction;
 use stream::Fed;

@@ -23,7 +23,7 @@ use denote.Ref.{RefT, MutRef}
 use denote.Steps.{opens, owned, peeks, facts}
 use denote.Struct.Steps.{spelt}
 use denote.Struct.Laws as LL
-use Rattle.stream.specs.declared.Stream.{Stream}
+use Rattle.stream_spec.specs.declared.Stream.{Stream}
 use Rattle.stream.proofs.Stream as T
 use Rattle.stream.proofs.Stream.Laws as T′
 

@@ -1,11 +1,1 @@
-pub mod Reached
-pub mod Rules
-pub mod Joining
-pub mod Starting
-pub mod Releasing
-pub mod Feeding
-pub mod Accepted
-pub mod Demand3
-pub mod Depends
-pub mod Samples
 pub mod Lent

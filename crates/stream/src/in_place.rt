@@ -1,7 +1,7 @@
 // A stream whose record is changed where it lies: thin forms over a record that is lent.
 ghost use mathlib.Core.Path.{_≡_};
 ghost use lib.ListN.{length};
-ghost use Rattle.stream.specs.Stream as spec;
+ghost use Rattle.stream_spec.specs.Stream as spec;
 use crate::Ended;
 use crate::Fed;
 use crate::Stream;

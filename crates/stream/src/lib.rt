@@ -8,7 +8,7 @@ ghost use mathlib.Core.Path.{_≡_};
 ghost use Prim.Native.Nat.{_+_, _≤_};
 ghost use lib.Dec.{eqb};
 ghost use lib.ListN.{length};
-ghost use Rattle.stream.specs.Stream as spec;
+ghost use Rattle.stream_spec.specs.Stream as spec;
 use aes::Key;
 use modes::Direction;
 use part::position;

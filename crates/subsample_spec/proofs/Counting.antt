@@ -9,7 +9,7 @@ use lib.Dec.{ltb}
 use lib.ListN.{length, drop, set, replicate, length-replicate}
 use borrow.Author.Tests.{ltb-true, ltb-false}
 use Rattle.octets.specs.Bytes.{listOf, filled}
-use Rattle.octets.proofs.Bytes.{filled-short}
+use Rattle.octets.proofs.Bytes.{filled-short, listOf-next, length-listOf}
 use Rattle.octets.proofs.Fill.{Filled, fill-none, fill-next}
 use Rattle.subsample_spec.specs.Auxiliary.{limit, some, sum}
 
@@ -45,17 +45,6 @@ none-at-all f count i l m n =
 pub sum-next : (f : ℕ → ℕ) (n : ℕ) → sum f (n + 1) ≡ sum f n + f n
 unfolding sum
 sum-next f n = rw add-one
-
-listOf-next : (f : ℕ → ℕ) (n : ℕ) → listOf (n + 1) f ≡ listOf n f ++ (f n ∷ [])
-listOf-next f n = rw add-one (go n f)
-  where
-    go : (n : ℕ) (f : ℕ → ℕ) → listOf (suc n) f ≡ listOf n f ++ (f n ∷ [])
-    go zero f = refl
-    go (suc n) f = ap (λ (l : List ℕ). f 0 ∷ l) (go n (λ i. f (suc i)))
-
-length-listOf : (n : ℕ) (f : ℕ → ℕ) → length (listOf n f) ≡ n
-length-listOf zero f = refl
-length-listOf (suc n) f = ap suc (length-listOf n (λ i. f (suc i)))
 
 -- A loop that fills the places of a map with f 0, f 1, .., count of them; i are done.
 pub record Taken (f : ℕ → ℕ) (count : ℕ) (out : List ℕ) (i : ℕ) : Type 0 where

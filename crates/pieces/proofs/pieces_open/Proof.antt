@@ -1,8 +1,8 @@
 use mathlib.Core.Path.{_≡_, ap, _∙_}
 use Prim.Native.Nat.{ℕ, _+_, _-_, _^_, _≤_, _<_, min}
 use lib.ListN.{length, length-take, length-drop}
-use Rattle.stream.specs.declared.Ended.{Ended}
-use Rattle.stream.proofs.Feeding.{released-fits}
+use Rattle.stream_spec.specs.declared.Ended.{Ended}
+use Rattle.stream_spec.proofs.Feeding.{released-fits}
 use Rattle.pieces.proofs.LentEnd.{put-end}
 use Rattle.pieces.proofs.Progress.{Progress, room, length-out, begin, further, ended, start-refused, output-short}
 use borrow.Author.Needs.{needs}

@@ -1,7 +1,7 @@
 use mathlib.Core.Path.{sym, _∙_}
 use borrow.Author.Tests.{eq-eqb, ne-eqb, not-true, not-false}
 use Rattle.octets.specs.Answers.{answer}
-use Rattle.stream.specs.Stream.{endRows, end}
+use Rattle.stream_spec.specs.Stream.{endRows, end}
 use borrow.Author.Needs.{needs}
 use Rattle.stream.proofs.end.Statement.{statement}
 use Rattle.stream.proofs.end.Tie as tie

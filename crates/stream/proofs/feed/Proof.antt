@@ -3,10 +3,10 @@ use Prim.Native.Nat.{_+_, _-_, _≤_}
 use lib.ListN.{length}
 use lib.Seq.{length-take-le}
 use borrow.Author.Tests.{not-true, not-false}
-use Rattle.stream.specs.Stream.{due}
-use Rattle.stream.proofs.Rules.{position-within, held-most, sound-rules}
-use Rattle.stream.proofs.Releasing.{Places, keep-few}
-use Rattle.stream.proofs.Feeding.{due-of, unsound, past, nothing, short, done}
+use Rattle.stream_spec.specs.Stream.{due}
+use Rattle.stream_spec.proofs.Rules.{position-within, held-most, sound-rules}
+use Rattle.stream_spec.proofs.Releasing.{Places, keep-few}
+use Rattle.stream_spec.proofs.Feeding.{due-of, unsound, past, nothing, short, done}
 use borrow.Author.Needs.{needs}
 use native.Mathlib.Omega.{arith}
 use Rattle.stream.proofs.feed.Statement.{statement}

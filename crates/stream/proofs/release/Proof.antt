@@ -5,9 +5,9 @@ use Prim.Native.Nat.{_+_, _-_}
 use lib.ListN.{length, take}
 use lib.Seq.{length-take-le}
 use Rattle.scheme.specs.Machine.{Stepped}
-use Rattle.stream.specs.Stream.{due}
-use Rattle.stream.proofs.Rules.{held-most, held-below, few, sound-rules}
-use Rattle.stream.proofs.Releasing.{Places, keep-few, fed-is, released-stream}
+use Rattle.stream_spec.specs.Stream.{due}
+use Rattle.stream_spec.proofs.Rules.{held-most, held-below, few, sound-rules}
+use Rattle.stream_spec.proofs.Releasing.{Places, keep-few, fed-is, released-stream}
 use borrow.Author.Needs.{needs}
 use native.Mathlib.Omega.{arith}
 use Rattle.stream.proofs.release.Statement.{statement}

@@ -1,7 +1,7 @@
 use mathlib.Core.Path.{sym, _∙_}
 use borrow.Author.Tests.{eq-eqb, ne-eqb, le-leb, lt-leb, not-true, not-false}
 use Rattle.subsample_spec.specs.Auxiliary.{longest}
-use Rattle.stream.specs.Stream.{sound}
+use Rattle.stream_spec.specs.Stream.{sound}
 use borrow.Author.Needs.{needs}
 use Rattle.stream.proofs.sound.Statement.{statement}
 use Rattle.stream.proofs.sound.Tie as tie

@@ -1,4 +1,4 @@
-use Rattle.stream.proofs.Starting.{start-refused, start-accepted}
+use Rattle.stream_spec.proofs.Starting.{start-refused, start-accepted}
 use borrow.Author.Needs.{needs}
 use Rattle.stream.proofs.start.Statement.{statement}
 use Rattle.stream.proofs.start.Tie as tie

@@ -1,4 +1,4 @@
-use Rattle.stream.proofs.Feeding.{released-fits}
+use Rattle.stream_spec.proofs.Feeding.{released-fits}
 use borrow.Author.Needs.{needs}
 use native.Mathlib.Omega.{arith}
 use Rattle.replay.proofs.replies.feed.Statement.{statement}

@@ -1,6 +1,6 @@
 use mathlib.Core.Path.{sym}
 use lib.ListN.{List·getD-append}
-use Rattle.stream.proofs.Joining.{byte-later}
+use Rattle.stream_spec.proofs.Joining.{byte-later}
 use borrow.Author.Needs.{needs}
 use Rattle.stream.proofs.bytes.byte_of.Statement.{statement}
 use Rattle.stream.proofs.bytes.byte_of.Tie as tie

@@ -2,7 +2,7 @@ use mathlib.Core.List.{List}
 use mathlib.Core.Path.{refl}
 use Prim.Native.Nat.{ℕ, _-_}
 use lib.ListN.{length}
-use Rattle.stream.proofs.Joining.{joined-parts}
+use Rattle.stream_spec.proofs.Joining.{joined-parts}
 use borrow.Author.Needs.{needs}
 use Rattle.stream.proofs.bytes.join.Statement.{statement}
 use Rattle.stream.proofs.bytes.join.Tie as tie

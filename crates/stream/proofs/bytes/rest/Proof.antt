@@ -3,7 +3,7 @@ use mathlib.Core.Path.{_≡_, refl}
 use Prim.Native.Nat.{ℕ, _+_, _-_, _≤_}
 use lib.ListN.{length, take, drop, length-append}
 use Rattle.octets.proofs.Fill.{Filled, fill-none}
-use Rattle.stream.proofs.Joining.{kept-next, kept-all}
+use Rattle.stream_spec.proofs.Joining.{kept-next, kept-all}
 use native.Mathlib.Omega.{arith}
 use Rattle.stream.proofs.bytes.rest.Statement.{statement}
 use Rattle.stream.proofs.bytes.rest.Tie as tie

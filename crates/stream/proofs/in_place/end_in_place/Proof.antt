@@ -32,9 +32,9 @@ use denote.Triple.Spec.{Meets, tripleOf}
 use denote.Triple.Table.{entered, cited}
 use denote.Triple.Walked.{says, Stays, stay-ref, walkOf, goes-ref, ends-at, walked, walk-meets}
 use denote.Triple.Clauses.{ensured, lasts}
-use Rattle.stream.specs.Stream.{end as endBy}
-use Rattle.stream.specs.declared.Stream.{Stream}
-use Rattle.stream.specs.declared.Ended.{Ended}
+use Rattle.stream_spec.specs.Stream.{end as endBy}
+use Rattle.stream_spec.specs.declared.Stream.{Stream}
+use Rattle.stream_spec.specs.declared.Ended.{Ended}
 use Rattle.stream.proofs.Lent.{mach, own, typed, made, opened}
 use Rattle.stream.proofs.Stream as T
 use Rattle.stream.proofs.Ended as E

@@ -29,9 +29,9 @@ use denote.Triple.Table.{entered, cited}
 use denote.Triple.Walked.{says, Stays, stay-none, walkOf, goes-none, ends-at, walked, walk-meets}
 use denote.Triple.Clauses.{ensured, lasts}
 use denote.Exit.{yes}
-use Rattle.stream.specs.Stream.{end as endBy}
-use Rattle.stream.specs.declared.Stream.{Stream}
-use Rattle.stream.specs.declared.Ended.{Ended}
+use Rattle.stream_spec.specs.Stream.{end as endBy}
+use Rattle.stream_spec.specs.declared.Stream.{Stream}
+use Rattle.stream_spec.specs.declared.Ended.{Ended}
 use Rattle.stream.proofs.Lent.{mach, Known, ref, lent, typed, lends, back}
 use Rattle.stream.proofs.Stream as T
 use Rattle.stream.proofs.Stream.Laws as T′

@@ -6,12 +6,10 @@ use Prim.Native.Nat.{ℕ, _+_, _-_, _≤_}
 use lib.Dec.{eqb, ltb}
 use lib.ListN.{length, take}
 use Rattle.modes_spec.specs.declared.Direction.{Direction}
-use Rattle.track_spec.specs.Track.{fields}
-use Rattle.subsample_spec.specs.Auxiliary.{mapRead}
 use Rattle.scheme.specs.Part.{heldUnder}
-use Rattle.sample_spec.specs.Sample.{sampleAfter}
-use Rattle.stream.specs.declared.Stream.{Stream}
-use Rattle.stream.specs.Stream.{start, feed, outputAfter, end}
+use Rattle.sample_spec.specs.Sample.{Inputs, parametersOf, mapOf, sampleAfter}
+use Rattle.stream_spec.specs.declared.Stream.{Stream}
+use Rattle.stream_spec.specs.Stream.{start, feed, outputAfter, end}
 
 -- Feeding with a piece and the output lent for it, or ending.
 pub data Call : Type 0 where
@@ -23,13 +21,13 @@ unfoldable pub lent : Call → List ℕ
 lent (Feeding piece out) = out
 lent Ending = []
 
--- What a call reports: the number, and how many bytes it released.
+-- What a call reports: the answer, and how many bytes it released.
 pub record Reply : Type 0 where
-  pub number : ℕ
+  pub answer : ℕ
   pub released : ℕ
 
 abbrev pub reply : ℕ → ℕ → Reply
-reply number released = record { number = number; released = released }
+reply answer released = record { answer = answer; released = released }
 
 -- ---- The account: what document 01 says of each call, from the lengths alone.
 
@@ -60,7 +58,7 @@ module _ (held : ℕ → ℕ) (n : ℕ) where
 
   -- The piece that a call adds to the accepted ones; a refused call adds none.
   unfoldable pub pieceAt : ℕ → Call → List ℕ
-  pieceAt x (Feeding piece out) = cond (eqb (feeding x (length piece) (length out) .number) 0) piece []
+  pieceAt x (Feeding piece out) = cond (eqb (feeding x (length piece) (length out) .answer) 0) piece []
   pieceAt x Ending = []
 
   -- The replies to a list of calls from x on.
@@ -84,11 +82,11 @@ pub record Made : Type 0 where
 unfoldable pub make : Stream → Call → Made
 make t (Feeding piece out) =
     record {
-      reply = reply (feed t piece (length out) .number) (feed t piece (length out) .released);
+      reply = reply (feed t piece (length out) .answer) (feed t piece (length out) .released);
       stream = feed t piece (length out) .stream;
       output = outputAfter t piece out;
     }
-make t Ending = record { reply = reply (end t .number) 0; stream = t; output = [] }
+make t Ending = record { reply = reply (end t .answer) 0; stream = t; output = [] }
 
 -- The calls made one after the other, each on the record that the call before handed back or left.
 unfoldable pub run : Stream → List Call → List Made
@@ -118,34 +116,32 @@ pub record Unchanged (t : Stream) (c : Call) : Type 0 where
   pub none : make t c .reply .released ≡ 0
 
 -- The bytes held at position x under a start's parameters and map.
-abbrev pub heldFrom : List ℕ → List ℕ → List ℕ → ℕ → ℕ → ℕ
-heldFrom code box aux n x = heldUnder (fields code box) (mapRead (fields code box) aux) n x
+abbrev pub heldFrom : Inputs → ℕ → ℕ → ℕ
+heldFrom i n x = heldUnder (parametersOf i) (mapOf i) n x
 
 -- The accepted pieces of a list of calls on a started stream, joined, and x, their length.
-abbrev pub pieces : List ℕ → List ℕ → List ℕ → ℕ → List Call → List ℕ
-pieces code box aux n calls = accepted (heldFrom code box aux n) n 0 calls
+abbrev pub pieces : Inputs → ℕ → List Call → List ℕ
+pieces i n calls = accepted (heldFrom i n) n 0 calls
 
-abbrev pub reached : List ℕ → List ℕ → List ℕ → ℕ → List Call → ℕ
-reached code box aux n calls = length (pieces code box aux n calls)
+abbrev pub reached : Inputs → ℕ → List Call → ℕ
+reached i n calls = length (pieces i n calls)
 
 -- Of a list of calls on a started stream:
-pub record Demand3 (d : Direction) (code box aux keys : List ℕ) (n : ℕ) (calls : List Call) : Type 0 where
+pub record Demand3 (d : Direction) (i : Inputs) (n : ℕ) (calls : List Call) : Type 0 where
   -- the replies are those of the account;
-  pub replies : replies (run (start d code box aux keys n .stream) calls) ≡ account (heldFrom code box aux n) n 0 calls
+  pub replies : replies (run (start d i n .stream) calls) ≡ account (heldFrom i n) n 0 calls
   -- for every sample of the declared length that begins with the accepted pieces, the released bytes are the first x - held x of
   -- what the whole-sample call with the start's inputs makes of it;
-  pub bytes : (xs rest : List ℕ) → xs ≡ pieces code box aux n calls ++ rest → length xs ≡ n
-      → released (run (start d code box aux keys n .stream) calls)
-      ≡ take (countAt (heldFrom code box aux n) (reached code box aux n calls)) (sampleAfter d code box aux keys xs)
+  pub bytes : (xs rest : List ℕ) → xs ≡ pieces i n calls ++ rest → length xs ≡ n
+      → released (run (start d i n .stream) calls) ≡ take (countAt (heldFrom i n) (reached i n calls)) (sampleAfter d i xs)
   -- they are that many, and at most 15 are held;
-  pub count : length (released (run (start d code box aux keys n .stream) calls))
-      ≡ countAt (heldFrom code box aux n) (reached code box aux n calls)
-  pub held-within : heldFrom code box aux n (reached code box aux n calls) ≤ reached code box aux n calls
-  pub held-few : heldFrom code box aux n (reached code box aux n calls) ≤ 15
+  pub count : length (released (run (start d i n .stream) calls)) ≡ countAt (heldFrom i n) (reached i n calls)
+  pub held-within : heldFrom i n (reached i n calls) ≤ reached i n calls
+  pub held-few : heldFrom i n (reached i n calls) ≤ 15
   -- an end after the list is answered 0 exactly when x is the declared length, and then all of the sample has been released;
-  pub end-done : reached code box aux n calls ≡ n → end (recordAfter (start d code box aux keys n .stream) calls) .number ≡ 0
-  pub end-only : end (recordAfter (start d code box aux keys n .stream) calls) .number ≡ 0 → reached code box aux n calls ≡ n
-  pub all : end (recordAfter (start d code box aux keys n .stream) calls) .number ≡ 0
-      → released (run (start d code box aux keys n .stream) calls) ≡ sampleAfter d code box aux keys (pieces code box aux n calls)
+  pub end-done : reached i n calls ≡ n → end (recordAfter (start d i n .stream) calls) .answer ≡ 0
+  pub end-only : end (recordAfter (start d i n .stream) calls) .answer ≡ 0 → reached i n calls ≡ n
+  pub all : end (recordAfter (start d i n .stream) calls) .answer ≡ 0
+      → released (run (start d i n .stream) calls) ≡ sampleAfter d i (pieces i n calls)
   -- a refused call, on any record, leaves it equal and the lent output as it was.
-  pub refused : (t : Stream) (c : Call) → (make t c .reply .number ≡ 0 → ⊥) → Unchanged t c
+  pub refused : (t : Stream) (c : Call) → (make t c .reply .answer ≡ 0 → ⊥) → Unchanged t c

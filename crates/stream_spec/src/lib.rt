@@ -1,0 +1,86 @@
+// A sample in pieces: the record of a stream, and what start, feeding and end answer; definitions and theorems (document 01,
+// "Pieces").
+pub mod refusal;
+
+ghost use mathlib.Core.Path.{_≡_};
+ghost use Rattle.stream_spec.specs.Stream as spec;
+use aes::Key;
+use modes_spec::Direction;
+use subsample_spec::SubsampleMap;
+use track_spec::Parameters;
+
+// What was declared at the start of a stream. No feeding changes it.
+pub struct Declared {
+    pub direction: Direction,
+    pub parameters: Parameters,
+    pub length: usize,
+    pub map: SubsampleMap,
+    pub key: Key,
+}
+
+// How far a stream has come: the position, the counter or chain block, and the bytes held.
+pub struct Progress {
+    pub position: usize,
+    pub block: [u8; 16],
+    pub held: [u8; 16],
+    pub held_count: usize,
+}
+
+// A sample on its way.
+pub struct Stream {
+    pub declared: Declared,
+    pub progress: Progress,
+}
+
+impl Progress {
+    // The progress of a stream that nothing was fed to.
+    pub fn begun(iv: [u8; 16]) -> Progress
+        ensures { λ r. ⌜ r ≡ spec.begun iv ⌝ }
+    {
+        Progress {
+            position: 0,
+            block: iv,
+            held: [0; 16],
+            held_count: 0,
+        }
+    }
+}
+
+impl Stream {
+    // The most bytes that are ever held.
+    pub const MOST_HELD: usize = 15;
+
+    // The record of a refused start: an empty unprotected cenc track, set to open.
+    pub fn idle() -> Stream
+        ensures { λ r. ⌜ r ≡ spec.idle ⌝ }
+    {
+        Stream {
+            declared: Declared {
+                direction: Direction::Open,
+                parameters: Parameters::unprotected(),
+                length: 0,
+                map: SubsampleMap::empty(),
+                key: Key::new([0; Key::SIZE]),
+            },
+            progress: Progress::begun([0; 16]),
+        }
+    }
+}
+
+// What starting a stream answers.
+pub struct Started {
+    pub answer: u8,
+    pub stream: Stream,
+}
+
+// What feeding a piece answers: how many bytes were released, and the record after it.
+pub struct Fed {
+    pub answer: u8,
+    pub released: usize,
+    pub stream: Stream,
+}
+
+// What ending a stream answers.
+pub struct Ended {
+    pub answer: u8,
+}
