@@ -10,6 +10,7 @@ use lib.ListN.{length, take, drop, replicate, length-append}
 use lib.Seq.{take-at}
 use borrow.Author.Tests.{eq-eqb, ne-eqb, le-leb, ltb-false}
 use Rattle.octets.specs.Answers.{answer}
+use Rattle.octets.proofs.Bytes.{filled-short}
 use Rattle.aes.specs.Block.{encipher-length, decipher-length}
 use Rattle.track_spec.specs.Track.{parameterRows}
 use Rattle.subsample_spec.specs.Auxiliary.{longest, mapRows}
@@ -23,6 +24,7 @@ use Rattle.scheme.specs.Held.{heldAt}
 use Rattle.scheme.specs.Part.{entriesOf, heldUnder, feedUnder}
 use Rattle.scheme.proofs.Pieces.{heldAfter, Added, feed-append, feed-append-state, feed-position, feed-adds}
 use Rattle.scheme.proofs.Demand.{heldAt-is}
+use Rattle.scheme.proofs.Holding.{held-small, held-low}
 use Rattle.stream_spec.specs.declared.Declared.{Declared}
 use Rattle.stream_spec.specs.declared.Stream.{Stream}
 use Rattle.stream_spec.specs.Stream.{heldBy, soundDeclared, sound, stateOf, progressOf, due, feedRows, machine, fedBy, afterPiece, feed, outputAfter, endRows, end}
@@ -72,6 +74,15 @@ module _ (q : Declared) where
 
   abbrev es : List Entry
   es = entriesOf (q .parameters) (q .map) n
+
+  -- at most 15 bytes are held, and no more than there are
+  pub few : (x : ℕ) → H x ≤ 15
+  unfolding heldUnder
+  few x = held-small pattern s es x
+
+  pub low : (x : ℕ) → H x ≤ x
+  unfolding heldUnder
+  low x = held-low pattern s es x
 
   abbrev Fits : State → Type 0
   Fits t = length (t .held) ≡ H (t .position)
@@ -152,7 +163,7 @@ module _ (q : Declared) (iv : List ℕ) where
     unfolding at
     state-at =
         let h : List ℕ = fed a .state .held in
-        rw (take-at h (replicate (16 - length h) 0) (length h) refl)
+        rw (filled-short 16 h (omega (arith, at-held, few q (length a))), take-at h (drop (length h) (replicate 16 0)) (length h) refl)
 
     at-sound : Rules q → length a ≤ n q → sound (at a) ≡ true
     unfolding sound at

@@ -12,6 +12,7 @@ use borrow.Author.Tests.{eqb-true, eq-eqb, leb-true, le-leb, le-ltb, ltb-false, 
 use Rattle.octets.specs.Answers.{answer}
 use Rattle.octets.specs.Bytes.{same}
 use Rattle.octets.proofs.Answers.{done-head, done-tail}
+use Rattle.octets.proofs.OfBytes.{filled-length}
 use Rattle.octets.proofs.Tests.{&&-left, &&-right}
 use Rattle.modes_spec.specs.declared.Direction.{Direction}
 use Rattle.track_spec.specs.Track.{known, allowedFields, allowed, parameterRows}
@@ -19,27 +20,17 @@ use Rattle.subsample_spec.specs.Auxiliary.{longest, some, sum, mapRows}
 use Rattle.scheme.specs.Layout.{schemeOf, patternOf}
 use Rattle.scheme.specs.Held.{heldAt}
 use Rattle.scheme.specs.Part.{entriesOf, heldUnder}
-use Rattle.scheme.proofs.Holding.{held-small, held-low}
 use Rattle.sample_spec.specs.Sample.{Inputs, ivOf, sampleRows}
 use Rattle.stream_spec.specs.declared.Declared.{Declared}
 use Rattle.stream_spec.specs.declared.Progress.{Progress}
 use Rattle.stream_spec.specs.declared.Stream.{Stream}
 use Rattle.stream_spec.specs.Stream.{heldBy, soundDeclared, sound, begun, idle, declaredBy, start, stateOf, due, feedRows, fedBy, afterPiece, feed}
-use Rattle.stream_spec.proofs.Reached.{Rules, heldAt-start, rules-sound, machine-position, machine-held}
+use Rattle.stream_spec.proofs.Reached.{Rules, heldAt-start, few, low, rules-sound, machine-position, machine-held}
 use Rattle.stream_spec.proofs.Accepted.{rules}
 
 -- ---- What was declared.
 
 module _ (q : Declared) where
-  -- at most 15 bytes are held, and no more than there are
-  pub few : (x : ℕ) → heldBy q x ≤ 15
-  unfolding heldUnder
-  few x = held-small (patternOf (q .parameters)) (schemeOf (q .parameters .code)) (entriesOf (q .parameters) (q .map) (q .length)) x
-
-  low : (x : ℕ) → heldBy q x ≤ x
-  unfolding heldUnder
-  low x = held-low (patternOf (q .parameters)) (schemeOf (q .parameters .code)) (entriesOf (q .parameters) (q .map) (q .length)) x
-
   declared-rules : soundDeclared q ≡ true → Rules q
   unfolding soundDeclared
   declared-rules ok =
@@ -105,7 +96,7 @@ module _ (t : Stream) (ok : sound t ≡ true) where
     next-held = machine-held q (stateOf g) piece held-fits
 
     pub next-places : length (afterPiece t piece .progress .held) ≡ 16
-    next-places = simp (length-append, length-replicate) (omega (arith, next-held, few q (g .position + length piece)))
+    next-places = filled-length 16 (fedBy t piece .state .held)
 
     next-sound : g .position + length piece ≤ q .length → sound (afterPiece t piece) ≡ true
     unfolding sound
@@ -118,7 +109,7 @@ module _ (t : Stream) (n room : ℕ) (h : answer (feedRows t n room) ≡ 0) wher
   unfolding feedRows
   done-sound = not-false (sound t) (done-head 13 (not (sound t)) _ (omega arith) h)
 
-  done-within : t .progress .position + n ≤ t .declared .length
+  pub done-within : t .progress .position + n ≤ t .declared .length
   unfolding feedRows
   done-within =
       ltb-false (t .declared .length) (t .progress .position + n)

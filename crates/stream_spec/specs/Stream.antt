@@ -3,8 +3,9 @@ use mathlib.Core.Bool.{Bool, cond, not, _&&_, _||_}
 use mathlib.Core.List.{List, [], _∷_, _++_}
 use Prim.Native.Nat.{ℕ, _+_, _-_}
 use lib.Dec.{eqb, leb, ltb}
-use lib.ListN.{length, take, drop, replicate}
+use lib.ListN.{length, take, drop}
 use Rattle.octets.specs.Answers.{Row, row, answer}
+use Rattle.octets.specs.Bytes.{filled}
 use Rattle.aes.specs.Block.{roundKeys, encipher, decipher}
 use Rattle.modes_spec.specs.declared.Direction.{Direction}
 use Rattle.modes_spec.specs.declared.Direction.the-variants.{Open}
@@ -17,6 +18,7 @@ use Rattle.stream_spec.specs.declared.Declared.{Declared}
 use Rattle.stream_spec.specs.declared.Progress.{Progress}
 use Rattle.stream_spec.specs.declared.Stream.{Stream}
 use Rattle.stream_spec.specs.declared.Started.{Started}
+use Rattle.stream_spec.specs.declared.Checked.{Checked}
 use Rattle.stream_spec.specs.declared.Fed.{Fed}
 use Rattle.stream_spec.specs.declared.Ended.{Ended}
 
@@ -84,18 +86,30 @@ progressOf s =
     record {
       position = s .position;
       block = s .block;
-      held = s .held ++ replicate (16 - length (s .held)) 0;
+      held = filled 16 (s .held);
       «held_count» = length (s .held);
     }
 
--- How many bytes a piece of n bytes makes due.
+-- After a piece of n bytes: how many bytes are held, and how many it makes due.
+abbrev pub kept : Stream → ℕ → ℕ
+kept t n = heldBy (t .declared) (t .progress .position + n)
+
 unfoldable pub due : Stream → ℕ → ℕ
-due t n = t .progress .«held_count» + n - heldBy (t .declared) (t .progress .position + n)
+due t n = t .progress .«held_count» + n - kept t n
 
 -- An output of some room.
 unfoldable pub feedRows : Stream → ℕ → ℕ → List Row
 feedRows t n room =
     row 13 (not (sound t)) ∷ row 14 (ltb (t .declared .length) (t .progress .position + n)) ∷ row 15 (ltb room (due t n)) ∷ []
+
+-- The answer, and if it is 0 what is due and what is held after it.
+unfoldable pub check : Stream → ℕ → ℕ → Checked
+check t n room =
+    record {
+      answer = answer (feedRows t n room);
+      due = cond (eqb (answer (feedRows t n room)) 0) (due t n) 0;
+      kept = cond (eqb (answer (feedRows t n room)) 0) (kept t n) 0;
+    }
 
 -- The machine under what was declared.
 unfoldable pub machine : Declared → State → List ℕ → Stepped

@@ -73,6 +73,13 @@ pub struct Started {
     pub stream: Stream,
 }
 
+// What a piece is answered before it is fed, and if accepted how many bytes it makes due and how many are held after it.
+pub struct Checked {
+    pub answer: u8,
+    pub due: usize,
+    pub kept: usize,
+}
+
 // What feeding a piece answers: how many bytes were released, and the record after it.
 pub struct Fed {
     pub answer: u8,
