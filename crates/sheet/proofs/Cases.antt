@@ -1,4 +1,4 @@
--- What is written in each case, by the number that reading the box answers.
+-- What is written in each case, by what reading the box answers.
 use mathlib.Core.Bool.{Bool, true, false, cond, not}
 use mathlib.Core.List.{List, [], _∷_}
 use mathlib.Core.Path.{_≡_, refl, _∙_}
@@ -11,7 +11,7 @@ use Rattle.track_spec.specs.declared.BoxRead.{BoxRead}
 use Rattle.track_spec.specs.Track.{known, readRows, readBox}
 use Rattle.sheet.specs.Sheet.{refused, sheet, told, lines}
 
--- the number 1 is given for a code that is not known, and for nothing else
+-- 1 is answered for a code that is not known, and for nothing else
 later : (a b c : Bool) → answer (row 2 a ∷ row 3 b ∷ row 4 c ∷ []) ≡ 1 → ⊥
 unfolding answer
 later true b c e = omega arith
@@ -29,21 +29,21 @@ unfolding answer
 passed true rows h = refl
 passed false rows h = absurd (h refl)
 
-unknown-code : (code box : List ℕ) → readBox code box .number ≡ 1 → known code ≡ false
+unknown-code : (code box : List ℕ) → readBox code box .answer ≡ 1 → known code ≡ false
 unfolding readBox readRows
 unknown-code code box e = given (known code) _ (later _ _ _) e
 
-known-code : (code box : List ℕ) → (readBox code box .number ≡ 1 → ⊥) → known code ≡ true
+known-code : (code box : List ℕ) → (readBox code box .answer ≡ 1 → ⊥) → known code ≡ true
 unfolding readBox readRows
 known-code code box n = passed (known code) _ n
 
-told-refused : (r : BoxRead) → (r .number ≡ 0 → ⊥) → told r ≡ refused (r .number)
+told-refused : (r : BoxRead) → (r .answer ≡ 0 → ⊥) → told r ≡ refused (r .answer)
 unfolding told
-told-refused r n = rw (ne-eqb (r .number) 0 n)
+told-refused r n = rw (ne-eqb (r .answer) 0 n)
 
-told-done : (r : BoxRead) → r .number ≡ 0 → told r ≡ sheet (r .parameters)
+told-done : (r : BoxRead) → r .answer ≡ 0 → told r ≡ sheet (r .parameters)
 unfolding told
-told-done r e = rw (eq-eqb (r .number) 0 e)
+told-done r e = rw (eq-eqb (r .answer) 0 e)
 
 pub lines-short : (s : List ℕ) → length s < 4 → lines s ≡ refused 1
 unfolding lines
@@ -56,13 +56,13 @@ over true s k h = rw (le-ltb (length s) 4 (omega arith), k, lt-ltb 4096 (length 
 over false s k h = rw (le-ltb (length s) 4 (omega arith), k)
 
 module _ (s : List ℕ) (size : 4 ≤ length s) (r : BoxRead) (read : r ≡ readBox (take 4 s) (drop 4 s)) where
-  pub lines-unknown : r .number ≡ 1 → lines s ≡ refused (r .number)
+  pub lines-unknown : r .answer ≡ 1 → lines s ≡ refused (r .answer)
   unfolding lines
   lines-unknown e =
       let u : known (take 4 s) ≡ false = unknown-code (take 4 s) (drop 4 s) (rw (← read) e) in
       rw (le-ltb (length s) 4 size, u, ← read) (told-refused r (λ z. omega arith))
 
-  module _ (n : r .number ≡ 1 → ⊥) where
+  module _ (n : r .answer ≡ 1 → ⊥) where
     code-known : known (take 4 s) ≡ true
     code-known = known-code (take 4 s) (drop 4 s) (rw (← read) n)
 
@@ -73,8 +73,8 @@ module _ (s : List ℕ) (size : 4 ≤ length s) (r : BoxRead) (read : r ≡ read
     unfolding lines
     lines-told h = rw (le-ltb (length s) 4 size, code-known, le-ltb 4096 (length s) h, read)
 
-    pub lines-refused : length s ≤ 4096 → (r .number ≡ 0 → ⊥) → lines s ≡ refused (r .number)
+    pub lines-refused : length s ≤ 4096 → (r .answer ≡ 0 → ⊥) → lines s ≡ refused (r .answer)
     lines-refused h z = lines-told h ∙ told-refused r z
 
-    pub lines-done : length s ≤ 4096 → r .number ≡ 0 → lines s ≡ sheet (r .parameters)
+    pub lines-done : length s ≤ 4096 → r .answer ≡ 0 → lines s ≡ sheet (r .parameters)
     lines-done h z = lines-told h ∙ told-done r z

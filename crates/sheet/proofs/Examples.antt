@@ -5,7 +5,8 @@ use Prim.Native.Nat.{ℕ}
 use lib.ListN.{replicate}
 use Rattle.octets.specs.Answers.{answer}
 use Rattle.octets.specs.Bytes.{same, number, filled}
-use Rattle.track_spec.specs.Track.{known, allowedProtected, allowedFields, allowed, fields, badFrame, badHead, badFields, readRows, readBox}
+use Rattle.boxes.specs.Box as frame
+use Rattle.track_spec.specs.Track.{known, allowedProtected, allowedFields, allowed, fieldsFrom, fields, badHead, badFields, readRows, readBox}
 use Rattle.octets.specs.Ascii.{ascii}
 use Rattle.sheet.specs.Sheet.{decimal, hex, refused, patternLine, constantLine, sheet, told, lines}
 
@@ -21,7 +22,7 @@ box =
 
 with-constant : lines (ascii "cbcs" ++ box)
     ≡ ascii "scheme cbcs\nversion 1\npattern 1:9\nprotected 1\niv 0\nkid 000102030405060708090a0b0c0d0e0f\nconstant aaaaaaaaaaaaaaaaaaaaaaaaaaaaaaaa\n"
-unfolding kid box answer same number filled known allowedProtected allowedFields allowed fields badFrame badHead badFields readRows readBox decimal hex patternLine constantLine sheet told lines
+unfolding kid box answer same number filled known allowedProtected allowedFields allowed fieldsFrom fields frame.badFrame badHead badFields readRows readBox decimal hex patternLine constantLine sheet told lines
 with-constant = refl
 
 -- version 0, no pattern, protected, IV size 16
@@ -32,7 +33,7 @@ plain =
 
 without-constant : lines (ascii "cenc" ++ plain)
     ≡ ascii "scheme cenc\nversion 0\npattern 0:0\nprotected 1\niv 16\nkid 000102030405060708090a0b0c0d0e0f\nconstant none\n"
-unfolding kid plain answer same number filled known allowedProtected allowedFields allowed fields badFrame badHead badFields readRows readBox decimal hex patternLine constantLine sheet told lines
+unfolding kid plain answer same number filled known allowedProtected allowedFields allowed fieldsFrom fields frame.badFrame badHead badFields readRows readBox decimal hex patternLine constantLine sheet told lines
 without-constant = refl
 
 empty : lines [] ≡ ascii "refused 1\n"
@@ -45,7 +46,7 @@ short = refl
 
 -- cbcs without a pattern
 other-scheme : lines (ascii "cbcs" ++ plain) ≡ ascii "refused 4\n"
-unfolding kid plain answer same number filled known allowedProtected allowedFields allowed fields badFrame badHead badFields readRows readBox decimal refused told lines
+unfolding kid plain answer same number filled known allowedProtected allowedFields allowed fieldsFrom fields frame.badFrame badHead badFields readRows readBox decimal refused told lines
 other-scheme = refl
 
 -- 4,097 bytes, under a known code and under another

@@ -34,7 +34,7 @@ abbrev pub line : List ℕ → List ℕ → List ℕ
 line name value = name ++ (value ++ ascii "\n")
 
 unfoldable pub refused : ℕ → List ℕ
-refused number = line (ascii "refused ") (decimal number)
+refused answer = line (ascii "refused ") (decimal answer)
 
 -- Crypt and skip count.
 unfoldable pub patternLine : ℕ → ℕ → List ℕ
@@ -57,7 +57,7 @@ sheet p =
 
 -- What reading a box tells: its parameters, or the number of the refusal.
 unfoldable pub told : BoxRead → List ℕ
-told r = cond (eqb (r .number) 0) (sheet (r .parameters)) (refused (r .number))
+told r = cond (eqb (r .answer) 0) (sheet (r .parameters)) (refused (r .answer))
 
 -- All bytes written for all bytes read.
 unfoldable pub lines : List ℕ → List ℕ

@@ -124,10 +124,10 @@ fn sheet(p: Parameters, out: &mut [u8; 160]) -> usize
 }
 
 // One line with the number of a refusal.
-fn refused(number: u8, out: &mut [u8; 160]) -> usize
-    ensures { λ r. ⌜ spec.Put (now (out .entry)) (now (out .exit)) 0 (spec.refused number) r ⌝ }
+fn refused(answer: u8, out: &mut [u8; 160]) -> usize
+    ensures { λ r. ⌜ spec.Put (now (out .entry)) (now (out .exit)) 0 (spec.refused answer) r ⌝ }
 {
-    number_line(b"refused ", number, out, 0)
+    number_line(b"refused ", answer, out, 0)
 }
 
 // Everything that is written for what was read, in front of the output, and how long it is.
@@ -138,15 +138,15 @@ fn render(input: &[u8], out: &mut [u8; 160]) -> usize
         return refused(refusal::SCHEME, out);
     }
     let read = track::read(&input[0..4], &input[4..]);
-    let number = read.number;
-    if number == refusal::SCHEME {
-        return refused(number, out);
+    let answer = read.answer;
+    if answer == refusal::SCHEME {
+        return refused(answer, out);
     }
     if MAX_INPUT < input.len() {
         return refused(refusal::FRAME, out);
     }
-    if number != refusal::DONE {
-        return refused(number, out);
+    if answer != refusal::DONE {
+        return refused(answer, out);
     }
     let parameters = read.parameters;
     sheet(parameters, out)

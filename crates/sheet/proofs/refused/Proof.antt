@@ -7,7 +7,7 @@ use Rattle.sheet.proofs.refused.Statement.{statement}
 use Rattle.sheet.proofs.refused.Tie as tie
 
 number-line-requires : tie.Need-number-line-requires
-number-line-requires c κs = omega (arith, number-bound (ascii "refused ") (c .before .before .args .number))
+number-line-requires c κs = omega (arith, number-bound (ascii "refused ") (c .before .before .args .answer))
 
 returns : tie.Need-returns
 unfolding refused
