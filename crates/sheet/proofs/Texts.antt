@@ -12,7 +12,9 @@ use Rattle.octets.specs.Bytes.{placed}
 use Rattle.octets.proofs.Fill.{take-next}
 use Rattle.octets.proofs.Bytes.{placed-fits}
 use Rattle.octets.specs.Ascii.{ascii}
-use Rattle.sheet.specs.Sheet.{digit, decimal, hex, line, patternLine, constantLine, Put}
+use Rattle.track_spec.specs.Track.{hasConstant}
+use Rattle.track_spec.specs.declared.Parameters.{Parameters}
+use Rattle.sheet.specs.Sheet.{digit, decimal, hex, line, patternLine, constantLine, sheet, Put}
 
 -- ---- Numbers and bytes.
 
@@ -64,7 +66,7 @@ pub pattern-length : (crypt skip : ℕ) → length (patternLine crypt skip) ≡ 
 unfolding patternLine
 pattern-length crypt skip = simp length-append (omega arith)
 
-pub pattern-bound : (crypt skip : ℕ) → length (patternLine crypt skip) ≤ 16
+pattern-bound : (crypt skip : ℕ) → length (patternLine crypt skip) ≤ 16
 pattern-bound crypt skip = omega (arith, pattern-length crypt skip, decimal-length crypt, decimal-length skip)
 
 pub constant-some : (has : Bool) (constant : List ℕ) → has ≡ true → constantLine has constant ≡ line (ascii "constant ") (hex constant)
@@ -112,6 +114,35 @@ module _ {s t u : List ℕ} {at m r : ℕ} {a b : List ℕ} (p : Put s t at a m)
         ends = simp length-append (omega (arith, p .ends, q .ends));
         fits = omega (arith, q .fits, same-length);
       }
+
+-- the seven lines of parameters, each where the one before it ends
+pub seven-lines : (p : Parameters) {s₀ s₁ s₂ s₃ s₄ s₅ s₆ s₇ : List ℕ} {e₁ e₂ e₃ e₄ e₅ e₆ e₇ : ℕ} {kid constant : List ℕ} {has : Bool}
+    → kid ≡ hex (p .kid .0) → has ≡ hasConstant (p .protected) (p .«iv_size») → constant ≡ p .«constant_iv» .0
+    → Put s₀ s₁ 0 (line (ascii "scheme ") (p .code)) e₁
+    → Put s₁ s₂ e₁ (line (ascii "version ") (decimal (p .version))) e₂
+    → Put s₂ s₃ e₂ (patternLine (p .crypt) (p .skip)) e₃
+    → Put s₃ s₄ e₃ (line (ascii "protected ") (decimal (p .protected))) e₄
+    → Put s₄ s₅ e₄ (line (ascii "iv ") (decimal (p .«iv_size»))) e₅
+    → Put s₅ s₆ e₅ (line (ascii "kid ") kid) e₆
+    → Put s₆ s₇ e₆ (constantLine has constant) e₇
+    → Put s₀ s₇ 0 (sheet p) e₇
+unfolding sheet
+seven-lines p k h i a b c d e f g =
+    rw (← k, ← h, ← i) (put-then a (put-then b (put-then c (put-then d (put-then e (put-then f g))))))
+
+-- a line that begins at a place or before it: that the output's 160 bytes have room for it, and where it ends at most
+module _ {at k : ℕ} (l : at ≤ k) where
+  pub number-fits : (name : List ℕ) (n : ℕ) → k + length name ≤ 156 → at + length (line name (decimal n)) ≤ 160
+  number-fits name n m = omega (arith, number-bound name n)
+
+  pub number-ends : {s t : List ℕ} {r : ℕ} (name : List ℕ) (n : ℕ) → Put s t at (line name (decimal n)) r → r ≤ k + length name + 4
+  number-ends name n p = omega (arith, p .ends, number-bound name n)
+
+  pub pattern-fits : (crypt skip : ℕ) → k ≤ 144 → at + length (patternLine crypt skip) ≤ 160
+  pattern-fits crypt skip m = omega (arith, pattern-bound crypt skip)
+
+  pub pattern-ends : {s t : List ℕ} {r : ℕ} (crypt skip : ℕ) → Put s t at (patternLine crypt skip) r → r ≤ k + 16
+  pattern-ends crypt skip p = omega (arith, p .ends, pattern-bound crypt skip)
 
 -- a text put in front
 pub in-front : {s t text : List ℕ} {r : ℕ} (l : List ℕ) → Put s t 0 text r → l ≡ text
