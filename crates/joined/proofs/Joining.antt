@@ -35,15 +35,18 @@ placed-none : (out : List ℕ) (at : ℕ) → at ≤ length out → placed out a
 placed-none out at l = placed-fits out at [] (omega arith) ∙ rw (add-zero at) (take-append-drop at out)
 
 module _ (f s out : List ℕ) where
+  -- where both fill the output none of it is left
+  pub joined-full : length out ≤ length f + length s → joinedInto f s out ≡ take (length out) (f ++ s)
+  unfolding joinedInto
+  joined-full l = take-append-le (length out) (f ++ s) (drop (length f + length s) out) (simp length-append (omega arith))
+
   -- the first fills the output
   full : (b : ℕ) → length out ≤ length f → b ≡ 0
       → placed (placed out 0 (take (length out) f)) (length out) (take b s) ≡ joinedInto f s out
-  unfolding joinedInto
   full b l z =
       let n : length (take (length out) f) ≡ length out = length-take-le (length out) f l in
       rw (z, placed-whole out (take (length out) f) n, placed-none (take (length out) f) (length out) (omega arith))
-      (sym (take-append-le (length out) (f ++ s) (drop (length f + length s) out) (simp length-append (omega arith))
-      ∙ take-append-le (length out) f s l))
+      (sym (joined-full (omega arith) ∙ take-append-le (length out) f s l))
 
   module _ (l : length f < length out) where
     both : (b : ℕ) → b ≤ length s → length f + b ≤ length out
@@ -69,13 +72,11 @@ module _ (f s out : List ℕ) where
     -- the second fills the rest
     tight : (b : ℕ) → b ≡ length out - length f → length out ≤ length f + length s
         → placed (placed out 0 f) (length f) (take b s) ≡ joinedInto f s out
-    unfolding joinedInto
     tight b e m =
         let k : length out ≡ length f + b = omega arith in
         both b (omega arith) (omega arith)
         ∙ rw (drop-of-length-le out {i = length f + b} (omega arith), append-nil)
-        (sym (take-append-le (length out) (f ++ s) (drop (length f + length s) out) (simp length-append (omega arith))
-        ∙ rw k (take-append-add f s b)))
+        (sym (joined-full m ∙ rw k (take-append-add f s b)))
 
   pub join-is : (a b : ℕ) → a ≡ min (length f) (length out) → b ≡ min (length s) (length out - a)
       → placed (placed out 0 (take a f)) a (take b s) ≡ joinedInto f s out

@@ -1,73 +1,25 @@
 // A sample in pieces (document 01, "Pieces").
-mod bytes;
-pub mod in_place;
-pub mod refusal;
-
 ghost use mathlib.Core.Bool.{true, _||_};
+ghost use mathlib.Core.List.{_++_};
 ghost use mathlib.Core.Path.{_≡_};
 ghost use Prim.Native.Nat.{_+_, _≤_};
 ghost use lib.Dec.{eqb};
-ghost use lib.ListN.{length};
+ghost use lib.ListN.{length, drop};
+ghost use Rattle.octets.specs.Bytes.{filled};
+ghost use Rattle.joined.specs.Joined.{joinedInto};
+ghost use Rattle.sample_spec.specs.Sample.{inputs};
 ghost use Rattle.stream_spec.specs.Stream as spec;
-use aes::Key;
 use modes::Direction;
-use part::position;
+use stream_spec::Checked;
+pub use stream_spec::Declared;
+pub use stream_spec::Ended;
+pub use stream_spec::Fed;
+pub use stream_spec::Progress;
+pub use stream_spec::Started;
+pub use stream_spec::Stream;
+pub use stream_spec::refusal;
 use subsample::SubsampleMap;
-use track::Parameters;
 use track::refusal::DONE;
-
-// A sample on its way: what was declared at the start, how far it has come, the counter or chain block, and the bytes held.
-pub struct Stream {
-    pub direction: Direction,
-    pub parameters: Parameters,
-    pub length: usize,
-    pub map: SubsampleMap,
-    pub position: usize,
-    pub key: Key,
-    pub block: [u8; 16],
-    pub held: [u8; 16],
-    pub held_count: usize,
-}
-
-impl Stream {
-    // The most bytes that are ever held.
-    pub const MOST_HELD: usize = 15;
-
-    // The record of a refused start: an empty unprotected cenc track, set to open.
-    pub fn idle() -> Stream
-        ensures { λ r. ⌜ r ≡ spec.idle ⌝ }
-    {
-        Stream {
-            direction: Direction::Open,
-            parameters: Parameters::unprotected(),
-            length: 0,
-            map: SubsampleMap::empty(),
-            position: 0,
-            key: Key::new([0; Key::SIZE]),
-            block: [0; 16],
-            held: [0; 16],
-            held_count: 0,
-        }
-    }
-}
-
-// What starting a stream answers.
-pub struct Started {
-    pub number: u8,
-    pub stream: Stream,
-}
-
-// What feeding a piece answers: how many bytes were released, and the record after it.
-pub struct Fed {
-    pub number: u8,
-    pub released: usize,
-    pub stream: Stream,
-}
-
-// What ending a stream answers.
-pub struct Ended {
-    pub number: u8,
-}
 
 // Starts a stream of a sample of a declared length: 1 to 12.
 pub fn start(
@@ -78,31 +30,30 @@ pub fn start(
     key_record: &[u8],
     sample_length: usize,
 ) -> Started
-    ensures { λ r. ⌜ r ≡ spec.start direction (now (code .entry)) (now («track_box» .entry)) (now (auxiliary .entry)) (now («key_record» .entry)) «sample_length» ⌝ }
+    ensures { λ r. ⌜ r ≡ spec.start direction (inputs (now (code .entry)) (now («track_box» .entry)) (now (auxiliary .entry)) (now («key_record» .entry))) «sample_length» ⌝ }
 {
-    let inputs = sample::read_inputs(code, track_box, auxiliary, key_record, sample_length);
-    if inputs.number != DONE {
+    let read = sample::read_inputs(code, track_box, auxiliary, key_record, sample_length);
+    if read.answer != DONE {
         return Started {
-            number: inputs.number,
+            answer: read.answer,
             stream: Stream::idle(),
         };
     }
-    let parameters = inputs.parameters;
-    let map = inputs.map;
-    let key = inputs.key;
-    let iv = inputs.iv;
+    let parameters = read.parameters;
+    let map = read.map;
+    let key = read.key;
+    let iv = read.iv;
     Started {
-        number: DONE,
+        answer: DONE,
         stream: Stream {
-            direction,
-            parameters,
-            length: sample_length,
-            map,
-            position: 0,
-            key,
-            block: iv.bytes(),
-            held: [0; 16],
-            held_count: 0,
+            declared: Declared {
+                direction,
+                parameters,
+                length: sample_length,
+                map,
+                key,
+            },
+            progress: Progress::begun(iv.bytes()),
         },
     }
 }
@@ -114,75 +65,148 @@ fn entries_allowed(protected: u8, count: usize) -> bool
     protected == 1 || count == 0
 }
 
-// Whether a record keeps its rules.
-fn sound(stream: Stream) -> bool
-    ensures { λ r. ⌜ r ≡ spec.sound stream ⌝ }
+// Whether what was declared keeps its rules.
+fn sound_declared(declared: Declared) -> bool
+    ensures { λ r. ⌜ r ≡ spec.soundDeclared declared ⌝ }
 {
-    let parameters = stream.parameters;
-    let map = stream.map;
+    let parameters = declared.parameters;
+    let map = declared.map;
     let code = parameters.code;
     if track::check(parameters) != DONE {
         return false;
     }
-    if SubsampleMap::LONGEST_SAMPLE < stream.length {
+    if SubsampleMap::LONGEST_SAMPLE < declared.length {
         return false;
     }
-    if subsample::check_map(code, map, stream.length) != DONE {
+    if subsample::check_map(code, map, declared.length) != DONE {
         return false;
     }
-    if !entries_allowed(parameters.protected, map.count) {
-        return false;
-    }
-    if stream.length < stream.position {
-        return false;
-    }
-    stream.held_count == position::held_at(parameters, map, stream.length, stream.position)
+    entries_allowed(parameters.protected, map.count)
 }
 
-// Fills the output with the first of the held bytes and the piece, as many as are due, and ciphers them there; the rest is held.
-fn release(stream: Stream, piece: &[u8], keep: usize, out: &mut [u8]) -> Stream
-    requires { ⌜ (spec.sound stream ≡ true) × (stream .position + length (now piece) ≤ stream .length)
-        × (keep ≡ spec.heldBy stream (stream .position + length (now piece))) × (length (now out) ≡ spec.due stream (length (now piece))) ⌝ }
-    ensures { λ r. ⌜ (r ≡ spec.withState stream (spec.fedBy stream (now (piece .entry)) .state))
-        × (now (out .exit) ≡ spec.fedBy stream (now (piece .entry)) .released) ⌝ }
+// How many bytes are held at a position of the declared sample.
+fn held_by(declared: Declared, position: usize) -> usize
+    ensures { λ r. ⌜ r ≡ spec.heldBy declared position ⌝ }
 {
-    let direction = stream.direction;
-    let parameters = stream.parameters;
-    let map = stream.map;
-    let key = stream.key;
-    let block = stream.block;
-    let held = stream.held;
-    let count = stream.held_count;
-    let rest = bytes::rest(&held[0..count], piece, out.len(), keep);
-    bytes::join(&held[0..count], piece, out);
-    let next = part::transform(
+    let parameters = declared.parameters;
+    let map = declared.map;
+    layout::held_at(parameters, map, declared.length, position)
+}
+
+// Whether a record keeps its rules.
+fn sound(stream: Stream) -> bool
+    ensures { λ r. ⌜ r ≡ spec.sound stream ⌝ }
+{
+    let declared = stream.declared;
+    let progress = stream.progress;
+    if !sound_declared(declared) {
+        return false;
+    }
+    if declared.length < progress.position {
+        return false;
+    }
+    progress.held_count == held_by(declared, progress.position)
+}
+
+fn refused(answer: u8) -> Checked
+    ensures { λ r. ⌜ r ≡ record { answer = answer; due = 0; kept = 0 } ⌝ }
+{
+    Checked {
+        answer,
+        due: 0,
+        kept: 0,
+    }
+}
+
+// What feeding n bytes with some room for output is answered, 13 to 15, how many bytes are due and how many are held after it.
+fn check(stream: Stream, n: usize, room: usize) -> Checked
+    ensures { λ r. ⌜ r ≡ spec.check stream n room ⌝ }
+{
+    if !sound(stream) {
+        return refused(refusal::RECORD);
+    }
+    let declared = stream.declared;
+    let progress = stream.progress;
+    if declared.length - progress.position < n {
+        return refused(refusal::PAST);
+    }
+    let kept = held_by(declared, progress.position + n);
+    let due = progress.held_count + n - kept;
+    if room < due {
+        return refused(refusal::OUTPUT);
+    }
+    Checked {
+        answer: DONE,
+        due,
+        kept,
+    }
+}
+
+// Fills the output with the first of the held bytes and the piece, and answers those after them, to be held.
+fn take_due(progress: Progress, piece: &[u8], out: &mut [u8]) -> [u8; 16]
+    requires { ⌜ progress .«held_count» ≤ 16 ⌝ }
+    ensures { λ r. ⌜ (r ≡ filled 16 (drop (length (now (out .entry))) (spec.stateOf progress .held ++ now (piece .entry))))
+        × (now (out .exit) ≡ joinedInto (spec.stateOf progress .held) (now (piece .entry)) (now (out .entry))) ⌝ }
+{
+    let held = progress.held;
+    let held_count = progress.held_count;
+    let rest = joined::sixteen_at(&held[0..held_count], piece, out.len());
+    joined::join(&held[0..held_count], piece, out);
+    rest
+}
+
+// Ciphers a part of the declared sample where it lies, from a position on.
+fn transform(declared: Declared, from: usize, block: [u8; 16], part: &mut [u8]) -> [u8; 16]
+    ensures { λ r. ⌜ (now (part .exit) ≡ spec.transformedBy declared from block (now (part .entry)) .released)
+        × (r ≡ spec.transformedBy declared from block (now (part .entry)) .state .block) ⌝ }
+{
+    let direction = declared.direction;
+    let parameters = declared.parameters;
+    let map = declared.map;
+    let key = declared.key;
+    part::transform(
         key.round_keys(),
         direction,
         parameters,
         map,
-        stream.length,
-        stream.position - count,
+        declared.length,
+        from,
+        block,
+        part,
+    )
+}
+
+// Writes what is due into an output of as many bytes, and answers how far the stream has come then.
+fn release(stream: Stream, piece: &[u8], kept: usize, out: &mut [u8]) -> Progress
+    requires { ⌜ (spec.sound stream ≡ true) × (stream .progress .position + length (now piece) ≤ stream .declared .length)
+        × (kept ≡ spec.kept stream (length (now piece))) × (length (now out) ≡ spec.due stream (length (now piece))) ⌝ }
+    ensures { λ r. ⌜ (r ≡ spec.afterPiece stream (now (piece .entry)) .progress)
+        × (now (out .exit) ≡ spec.fedBy stream (now (piece .entry)) .released) ⌝ }
+{
+    let declared = stream.declared;
+    let progress = stream.progress;
+    let rest = take_due(progress, piece, out);
+    let block = progress.block;
+    let next = transform(
+        declared,
+        progress.position - progress.held_count,
         block,
         out,
     );
-    Stream {
-        direction,
-        parameters,
-        length: stream.length,
-        map,
-        position: stream.position + piece.len(),
-        key,
+    Progress {
+        position: progress.position + piece.len(),
         block: next,
         held: rest,
-        held_count: keep,
+        held_count: kept,
     }
 }
 
-fn refused(number: u8, stream: Stream) -> Fed
-    ensures { λ r. ⌜ r ≡ record { number = number; released = 0; stream = stream } ⌝ }
+// A piece that is refused, or empty.
+fn unchanged(answer: u8, stream: Stream) -> Fed
+    ensures { λ r. ⌜ r ≡ record { answer = answer; released = 0; stream = stream } ⌝ }
 {
     Fed {
-        number,
+        answer,
         released: 0,
         stream,
     }
@@ -193,32 +217,20 @@ pub fn feed(stream: Stream, piece: &[u8], out: &mut [u8]) -> Fed
     ensures { λ r. ⌜ (r ≡ spec.feed stream (now (piece .entry)) (length (now (out .entry))))
         × (now (out .exit) ≡ spec.outputAfter stream (now (piece .entry)) (now (out .entry))) ⌝ }
 {
-    if !sound(stream) {
-        return refused(refusal::RECORD, stream);
-    }
-    if stream.length - stream.position < piece.len() {
-        return refused(refusal::PAST, stream);
+    let checked = check(stream, piece.len(), out.len());
+    if checked.answer != DONE {
+        return unchanged(checked.answer, stream);
     }
     if piece.len() == 0 {
-        return refused(DONE, stream);
+        return unchanged(DONE, stream);
     }
-    let parameters = stream.parameters;
-    let map = stream.map;
-    let keep = position::held_at(
-        parameters,
-        map,
-        stream.length,
-        stream.position + piece.len(),
-    );
-    let due = stream.held_count + piece.len() - keep;
-    if out.len() < due {
-        return refused(refusal::OUTPUT, stream);
-    }
-    let next = release(stream, piece, keep, &mut out[0..due]);
+    let due = checked.due;
+    let progress = release(stream, piece, checked.kept, &mut out[0..due]);
+    let declared = stream.declared;
     Fed {
-        number: DONE,
+        answer: DONE,
         released: due,
-        stream: next,
+        stream: Stream { declared, progress },
     }
 }
 
@@ -228,13 +240,15 @@ pub fn end(stream: Stream) -> Ended
 {
     if !sound(stream) {
         return Ended {
-            number: refusal::RECORD,
+            answer: refusal::RECORD,
         };
     }
-    if stream.position != stream.length {
+    let declared = stream.declared;
+    let progress = stream.progress;
+    if progress.position != declared.length {
         return Ended {
-            number: refusal::EARLY,
+            answer: refusal::EARLY,
         };
     }
-    Ended { number: DONE }
+    Ended { answer: DONE }
 }

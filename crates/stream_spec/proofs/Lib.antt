@@ -4,3 +4,6 @@ pub mod Starting
 pub mod Rules
 pub mod Feeding
 pub mod Releasing
+pub mod Demand3
+pub mod Depends
+pub mod Samples

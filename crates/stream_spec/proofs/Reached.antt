@@ -103,7 +103,7 @@ module _ (q : Declared) where
   machine-held t xs h =
       machine-adds t xs h .sound ∙ heldAt-is pattern es s (machine q t xs .state .position) ∙ ap H (machine-position t xs)
 
-  machine-sum : (t : State) (xs : List ℕ) → Fits t
+  pub machine-sum : (t : State) (xs : List ℕ) → Fits t
       → length (machine q t xs .released) + H (t .position + length xs) ≡ length (t .held) + length xs
   machine-sum t xs h =
       ap (λ (y : ℕ). length (machine q t xs .released) + y) (sym (machine-held t xs h)) ∙ machine-adds t xs h .sum

@@ -24,13 +24,13 @@ use Rattle.scheme.specs.Walk.{left, SampleAsks}
 use Rattle.scheme.proofs.Allowed.{allowed-first, protected-total}
 use Rattle.scheme.proofs.Under.{clear-fed}
 use Rattle.scheme.proofs.Fitting.{protected-entries, asks-fits, transformed-clear}
-use Rattle.scheme.proofs.Holding.{held-few, piece-says, piece-asks}
+use Rattle.scheme.proofs.Holding.{piece-says, piece-asks}
 use Rattle.stream_spec.specs.declared.Declared.{Declared}
 use Rattle.stream_spec.specs.declared.Progress.{Progress}
 use Rattle.stream_spec.specs.declared.Stream.{Stream}
-use Rattle.stream_spec.specs.Stream.{sound, stateOf, kept, due, machine, fedBy, afterPiece}
+use Rattle.stream_spec.specs.Stream.{sound, stateOf, kept, due, machine, transformedBy, fedBy, afterPiece}
 use Rattle.stream_spec.proofs.Reached.{Rules, machine-position, machine-held}
-use Rattle.stream_spec.proofs.Rules.{held-is, held-fits, sound-rules}
+use Rattle.stream_spec.proofs.Rules.{sound-rules, held-is, held-fits, kept-few}
 
 empty : (l : List ℕ) → length l ≡ 0 → l ≡ []
 empty [] e = refl
@@ -101,15 +101,10 @@ module _ (t : Stream) (ok : sound t ≡ true) (w : Places t) (piece : List ℕ)
   unfolding heldUnder
   h-held = held-fits t ok (w .held) piece
 
-  pub size-all : length all ≡ g .«held_count» + length piece
+  size-all : length all ≡ g .«held_count» + length piece
   size-all = length-append h piece ∙ omega (arith, size-h)
 
-  pub kept-few : k ≤ g .«held_count» + length piece
-  unfolding heldUnder
-  kept-few =
-      omega (arith, size-all, held-few E D (λ b l. encipher-length _ b) (λ b l. decipher-length _ b) (q .direction) s pattern (p .«constant_iv» .0) es (g .position) (g .block) h piece h-held)
-
-  pub due-is : due t (length piece) ≡ length all - k
+  due-is : due t (length piece) ≡ length all - k
   unfolding due
   due-is = omega (arith, size-all)
 
@@ -117,12 +112,12 @@ module _ (t : Stream) (ok : sound t ≡ true) (w : Places t) (piece : List ℕ)
   abbrev part : List ℕ
   part = take (due t (length piece)) all
 
-  pub size-rest : length (drop (due t (length piece)) all) ≡ k
-  size-rest = length-drop (due t (length piece)) all ∙ omega (arith, due-is, size-all, kept-few)
+  size-rest : length (drop (due t (length piece)) all) ≡ k
+  size-rest = length-drop (due t (length piece)) all ∙ omega (arith, due-is, size-all, kept-few t ok (w .held) piece)
 
   -- and what the code makes of them where they lie
   abbrev pub T : Stepped
-  T = transformed E D (q .direction) p m n x (g .block) part
+  T = transformedBy q x (g .block) part
 
   -- the machine over them from where nothing is held
   abbrev fed : Stepped
@@ -153,7 +148,7 @@ module _ (t : Stream) (ok : sound t ≡ true) (w : Places t) (piece : List ℕ)
         asks-fits p m n one (rules .short) x (length part) _ (rw (protected-entries p m n one) at asked)
 
     fed-part : T ≡ fed
-    unfolding transformed machine
+    unfolding transformedBy transformed machine
     fed-part = rw part-fits
 
     no-held : fed .state .held ≡ []
@@ -165,7 +160,7 @@ module _ (t : Stream) (ok : sound t ≡ true) (w : Places t) (piece : List ℕ)
 
   -- of either kind of track
   part-fed : fed ≡ left (x + length part) (T .state .block) (T .released)
-  unfolding machine
+  unfolding machine transformedBy
   part-fed = go (eqb (p .protected) 1) refl
     where
       go : (b : Bool) → eqb (p .protected) 1 ≡ b → fed ≡ left (x + length part) (T .state .block) (T .released)
@@ -188,12 +183,7 @@ module _ (t : Stream) (ok : sound t ≡ true) (w : Places t) (piece : List ℕ)
       part-fed
 
   -- the progress after it, as the code writes it
-  pub released-progress :
-      record {
-        position = g .position + length piece;
-        block = T .state .block;
-        held = filled 16 (drop (due t (length piece)) all);
-        «held_count» = k;
-      }
-      ≡ afterPiece t piece .progress
-  released-progress = rw (fed-is, size-rest)
+  pub released-progress : (block rest : List ℕ) (j : ℕ) → block ≡ T .state .block → rest ≡ filled 16 (drop (due t (length piece)) all)
+      → j ≡ k
+      → record { position = g .position + length piece; block = block; held = rest; «held_count» = j } ≡ afterPiece t piece .progress
+  released-progress block rest j eb er ej = rw (eb, er, ej, fed-is, size-rest)

@@ -6,7 +6,7 @@ use Prim.Native.Nat.{ℕ, _+_, _≤_}
 use native.Mathlib.Nat.{add-zero}
 use native.Mathlib.Omega.{arith}
 use lib.Dec.{eqb, leb, ltb}
-use lib.ListN.{length, length-append, length-replicate}
+use lib.ListN.{length, replicate, length-replicate}
 use lib.Seq.{length-take-le}
 use borrow.Author.Tests.{eqb-true, eq-eqb, leb-true, le-leb, le-ltb, ltb-false, not-false}
 use Rattle.octets.specs.Answers.{answer}
@@ -24,8 +24,8 @@ use Rattle.sample_spec.specs.Sample.{Inputs, ivOf, sampleRows}
 use Rattle.stream_spec.specs.declared.Declared.{Declared}
 use Rattle.stream_spec.specs.declared.Progress.{Progress}
 use Rattle.stream_spec.specs.declared.Stream.{Stream}
-use Rattle.stream_spec.specs.Stream.{heldBy, soundDeclared, sound, begun, idle, declaredBy, start, stateOf, due, feedRows, fedBy, afterPiece, feed}
-use Rattle.stream_spec.proofs.Reached.{Rules, heldAt-start, few, low, rules-sound, machine-position, machine-held}
+use Rattle.stream_spec.specs.Stream.{heldBy, soundDeclared, sound, begun, idle, declaredBy, start, stateOf, kept, due, feedRows, fedBy, afterPiece, feed}
+use Rattle.stream_spec.proofs.Reached.{Rules, heldAt-start, few, low, rules-sound, machine-position, machine-held, machine-sum}
 use Rattle.stream_spec.proofs.Accepted.{rules}
 
 -- ---- What was declared.
@@ -95,12 +95,19 @@ module _ (t : Stream) (ok : sound t ≡ true) where
     pub next-held : length (fedBy t piece .state .held) ≡ heldBy q (g .position + length piece)
     next-held = machine-held q (stateOf g) piece held-fits
 
+    pub kept-few : kept t (length piece) ≤ g .«held_count» + length piece
+    kept-few = omega (arith, machine-sum q (stateOf g) piece held-fits, held-fits, held-is)
+
     pub next-places : length (afterPiece t piece .progress .held) ≡ 16
     next-places = filled-length 16 (fedBy t piece .state .held)
 
     next-sound : g .position + length piece ≤ q .length → sound (afterPiece t piece) ≡ true
     unfolding sound
     next-sound l = rw (declared-is, next-position, le-leb (g .position + length piece) (q .length) l, eq-eqb _ _ next-held)
+
+-- a piece of n bytes leaves no more to be held than there are
+pub kept-within : (t : Stream) → sound t ≡ true → length (t .progress .held) ≡ 16 → (n : ℕ) → kept t n ≤ t .progress .«held_count» + n
+kept-within t ok w n = rw (length-replicate {A = ℕ} n 0) at (kept-few t ok w (replicate n 0))
 
 -- ---- Feeding.
 

@@ -12,7 +12,7 @@ use Rattle.modes_spec.specs.declared.Direction.the-variants.{Open}
 use Rattle.track_spec.specs.Track.{zeros, unprotected, parameterRows}
 use Rattle.subsample_spec.specs.Auxiliary.{longest, emptyMap, mapRows}
 use Rattle.scheme.specs.Machine.{State, Stepped}
-use Rattle.scheme.specs.Part.{heldUnder, feedUnder}
+use Rattle.scheme.specs.Part.{heldUnder, feedUnder, transformed}
 use Rattle.sample_spec.specs.Sample.{Inputs, parametersOf, keyOf, mapOf, ivOf, sampleRows}
 use Rattle.stream_spec.specs.declared.Declared.{Declared}
 use Rattle.stream_spec.specs.declared.Progress.{Progress}
@@ -115,6 +115,12 @@ check t n room =
 unfoldable pub machine : Declared → State → List ℕ → Stepped
 machine q s xs =
     feedUnder (encipher (roundKeys (q .key .0))) (decipher (roundKeys (q .key .0))) (q .direction) (q .parameters) (q .map) (q .length) s
+    xs
+
+-- A part of the declared sample, ciphered where it lies: from position x on, with the counter or chain block c before it.
+unfoldable pub transformedBy : Declared → ℕ → List ℕ → List ℕ → Stepped
+transformedBy q x c xs =
+    transformed (encipher (roundKeys (q .key .0))) (decipher (roundKeys (q .key .0))) (q .direction) (q .parameters) (q .map) (q .length) x c
     xs
 
 -- The machine over a piece, and the record after it.
