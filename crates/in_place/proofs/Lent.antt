@@ -24,8 +24,8 @@ use denote.Steps.{opens, owned, peeks, facts}
 use denote.Struct.Steps.{spelt}
 use denote.Struct.Laws as LL
 use Rattle.stream_spec.specs.declared.Stream.{Stream}
-use Rattle.stream.proofs.Stream as T
-use Rattle.stream.proofs.Stream.Laws as T′
+use Rattle.stream_spec.proofs.Stream as T
+use Rattle.stream_spec.proofs.Stream.Laws as T′
 
 abbrev pub mach : Stream → Val
 mach h = LL.val T.the-type T′.the-laws h

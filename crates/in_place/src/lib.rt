@@ -2,27 +2,27 @@
 ghost use mathlib.Core.Path.{_≡_};
 ghost use lib.ListN.{length};
 ghost use Rattle.stream_spec.specs.Stream as spec;
-use crate::Ended;
-use crate::Fed;
-use crate::Stream;
+use stream::Ended;
+use stream::Fed;
+use stream::Stream;
 
 // What feeding a lent record answers; the record itself is with its lender.
 pub struct Reply {
-    pub number: u8,
+    pub answer: u8,
     pub released: usize,
 }
 
 // Feeds a piece over a record that is changed where it lies.
 pub fn feed_in_place(stream: &mut Stream, piece: &[u8], out: &mut [u8]) -> Reply
-    ensures { λ r. ⌜ (r .number ≡ spec.feed (now (stream .entry)) (now (piece .entry)) (length (now (out .entry))) .number)
+    ensures { λ r. ⌜ (r .answer ≡ spec.feed (now (stream .entry)) (now (piece .entry)) (length (now (out .entry))) .answer)
         × (r .released ≡ spec.feed (now (stream .entry)) (now (piece .entry)) (length (now (out .entry))) .released)
         × (now (stream .exit) ≡ spec.feed (now (stream .entry)) (now (piece .entry)) (length (now (out .entry))) .stream)
         × (now (out .exit) ≡ spec.outputAfter (now (stream .entry)) (now (piece .entry)) (now (out .entry))) ⌝ }
 {
-    let fed = crate::feed(*stream, piece, out);
+    let fed = stream::feed(*stream, piece, out);
     *stream = fed.stream;
     Reply {
-        number: fed.number,
+        answer: fed.answer,
         released: fed.released,
     }
 }
@@ -31,7 +31,7 @@ pub fn feed_in_place(stream: &mut Stream, piece: &[u8], out: &mut [u8]) -> Reply
 pub fn end_in_place(stream: &mut Stream) -> Ended
     ensures { λ r. ⌜ (r ≡ spec.end (now (stream .entry))) × (now (stream .exit) ≡ now (stream .entry)) ⌝ }
 {
-    crate::end(*stream)
+    stream::end(*stream)
 }
 
 // Feeds a record by value, which is lent for the call.
@@ -42,7 +42,7 @@ pub fn feed_lent(stream: Stream, piece: &[u8], out: &mut [u8]) -> Fed
     let mut record = stream;
     let reply = feed_in_place(&mut record, piece, out);
     Fed {
-        number: reply.number,
+        answer: reply.answer,
         released: reply.released,
         stream: record,
     }

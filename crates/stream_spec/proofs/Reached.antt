@@ -1,7 +1,7 @@
 -- The record that accepted pieces lead to: it is sound, and feeding moves it as the machine goes.
 use mathlib.Core.Bool.{Bool, true, false, cond, not, _&&_, _||_, true≢false}
 use mathlib.Core.List.{List, [], _∷_, _++_, append-nil}
-use mathlib.Core.Path.{_≡_, refl, sym, ap, _∙_}
+use mathlib.Core.Path.{_≡_, refl, sym, ap, ap₂, _∙_}
 use Prim.Native.Nat.{ℕ, suc, _+_, _-_, _≤_}
 use native.Mathlib.Nat.{zero-add}
 use native.Mathlib.Omega.{arith}
@@ -78,11 +78,11 @@ module _ (q : Declared) where
   -- at most 15 bytes are held, and no more than there are
   pub few : (x : ℕ) → H x ≤ 15
   unfolding heldUnder
-  few x = held-small pattern s es x
+  few x = held-small _ _ _ x
 
   pub low : (x : ℕ) → H x ≤ x
   unfolding heldUnder
-  low x = held-low pattern s es x
+  low x = held-low _ _ _ x
 
   abbrev Fits : State → Type 0
   Fits t = length (t .held) ≡ H (t .position)
@@ -171,7 +171,9 @@ module _ (q : Declared) (iv : List ℕ) where
 
     at-due : (k : ℕ) → due (at a) k ≡ dueAt (H q) (length a) k
     unfolding due dueAt countAt at
-    at-due k = rw (at-position, at-held) (omega (arith, at-sum))
+    at-due k =
+        let e : H q (fed a .state .position + k) ≡ H q (length a + k) = rw at-position in
+        omega (arith, e, at-held, at-sum)
 
     module _ (piece : List ℕ) where
       fed-by : fedBy (at a) piece ≡ machine q (fed a .state) piece
@@ -204,7 +206,11 @@ module _ (q : Declared) (iv : List ℕ) where
           → answer (feedRows (at a) k room)
           ≡ cond (ltb (n q) (length a + k)) 14 (cond (ltb room (dueAt (H q) (length a) k)) 15 0)
       unfolding feedRows answer
-      at-answer k room = rw (at-sound r l, at-due k, length-at, position-at)
+      at-answer k room =
+          let b : ltb (at a .declared .length) (at a .progress .position + k) ≡ ltb (n q) (length a + k) =
+          rw (length-at, position-at) in
+          let c : ltb room (due (at a) k) ≡ ltb room (dueAt (H q) (length a) k) = rw (at-due k) in
+          rw (at-sound r l) (ap₂ (λ (b c : Bool). cond b 14 (cond c 15 0)) b c)
 
       module _ (piece out : List ℕ) where
         abbrev k : ℕ

@@ -1,4 +1,4 @@
--- `stream::in_place::end_in_place` meets its contract: a walk of its MIR, by hand. The borrow is opened, the record is copied out whole, the borrow is closed at the same record, and `end` is called on the copy.
+-- `in_place::end_in_place` meets its contract: a walk of its MIR, by hand. The borrow is opened, the record is copied out whole, the borrow is closed at the same record, and `end` is called on the copy.
 -- All that the proof knows of `end` is that it meets its contract.
 use mathlib.Core.Path.{_≡_, refl}
 use Prim.Native.Nat.{ℕ}
@@ -35,18 +35,18 @@ use denote.Triple.Clauses.{ensured, lasts}
 use Rattle.stream_spec.specs.Stream.{end as endBy}
 use Rattle.stream_spec.specs.declared.Stream.{Stream}
 use Rattle.stream_spec.specs.declared.Ended.{Ended}
-use Rattle.stream.proofs.Lent.{mach, own, typed, made, opened}
-use Rattle.stream.proofs.Stream as T
-use Rattle.stream.proofs.Ended as E
-use Rattle.stream.proofs.Ended.Laws as E′
+use Rattle.in_place.proofs.Lent.{mach, own, typed, made, opened}
+use Rattle.stream_spec.proofs.Stream as T
+use Rattle.stream_spec.proofs.Ended as E
+use Rattle.stream_spec.proofs.Ended.Laws as E′
 use Rattle.stream.proofs.end as end
 use Rattle.stream.proofs.end.Symbol as end-def
 use Rattle.stream.proofs.end.Symbol.{name as #end}
 use Rattle.stream.proofs.end.Met as end-thm
-use Rattle.stream.proofs.in_place.end_in_place.Key.{name as #fun}
-use Rattle.stream.proofs.in_place.end_in_place as fun
-use Rattle.stream.proofs.in_place.end_in_place.Statement as stated
-use Rattle.stream.proofs.in_place.end_in_place.Code as code
+use Rattle.in_place.proofs.end_in_place.Key.{name as #fun}
+use Rattle.in_place.proofs.end_in_place as fun
+use Rattle.in_place.proofs.end_in_place.Statement as stated
+use Rattle.in_place.proofs.end_in_place.Code as code
 
 abbrev stayed : Stays (fun.ended .signature .params) (fun.ended .kept)
 stayed = (stay-ref (0 ∷ []) tt (plain (λ _. T.the-row)), tt)

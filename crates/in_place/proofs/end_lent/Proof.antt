@@ -1,4 +1,4 @@
--- `stream::in_place::end_lent` meets its contract: a walk of its MIR, by hand. The record is copied into a local, which is lent to `end_in_place` for a lifetime that is made for the call.
+-- `in_place::end_lent` meets its contract: a walk of its MIR, by hand. The record is copied into a local, which is lent to `end_in_place` for a lifetime that is made for the call.
 -- All that the proof knows of `end_in_place` is that it meets its contract.
 use mathlib.Core.Path.{_≡_, refl}
 use Prim.Native.Nat.{ℕ}
@@ -32,19 +32,19 @@ use denote.Exit.{yes}
 use Rattle.stream_spec.specs.Stream.{end as endBy}
 use Rattle.stream_spec.specs.declared.Stream.{Stream}
 use Rattle.stream_spec.specs.declared.Ended.{Ended}
-use Rattle.stream.proofs.Lent.{mach, Known, ref, lent, typed, lends, back}
-use Rattle.stream.proofs.Stream as T
-use Rattle.stream.proofs.Stream.Laws as T′
-use Rattle.stream.proofs.Ended as E
-use Rattle.stream.proofs.Ended.Laws as E′
-use Rattle.stream.proofs.in_place.end_in_place as end
-use Rattle.stream.proofs.in_place.end_in_place.Symbol as end-def
-use Rattle.stream.proofs.in_place.end_in_place.Symbol.{name as #end}
-use Rattle.stream.proofs.in_place.end_in_place.Met as end-thm
-use Rattle.stream.proofs.in_place.end_lent.Key.{name as #fun}
-use Rattle.stream.proofs.in_place.end_lent as fun
-use Rattle.stream.proofs.in_place.end_lent.Statement as stated
-use Rattle.stream.proofs.in_place.end_lent.Code as code
+use Rattle.in_place.proofs.Lent.{mach, Known, ref, lent, typed, lends, back}
+use Rattle.stream_spec.proofs.Stream as T
+use Rattle.stream_spec.proofs.Stream.Laws as T′
+use Rattle.stream_spec.proofs.Ended as E
+use Rattle.stream_spec.proofs.Ended.Laws as E′
+use Rattle.in_place.proofs.end_in_place as end
+use Rattle.in_place.proofs.end_in_place.Symbol as end-def
+use Rattle.in_place.proofs.end_in_place.Symbol.{name as #end}
+use Rattle.in_place.proofs.end_in_place.Met as end-thm
+use Rattle.in_place.proofs.end_lent.Key.{name as #fun}
+use Rattle.in_place.proofs.end_lent as fun
+use Rattle.in_place.proofs.end_lent.Statement as stated
+use Rattle.in_place.proofs.end_lent.Code as code
 
 abbrev stayed : Stays (fun.ended .signature .params) (fun.ended .kept)
 stayed = (stay-none (λ _. T.the-row) yes, tt)
@@ -109,4 +109,4 @@ end-lent-spec 𝓤 H 𝓜 𝓖 𝓡 =
     entered 𝓤 H (tripleOf 𝓤 H (𝓖 .A) fun.signature (fun.spec 𝓤 H (𝓖 .A) (𝓜 .mem) (𝓡 .run)))
     (tables 𝓤 H 𝓜 𝓡 code.env .C) (tables 𝓤 H 𝓜 𝓡 code.env .Λ) #fun code.function (code.unfolded 𝓤 H 𝓜 𝓡)
     (meets 𝓤 H (𝓖 .A) (givenOf 𝓤 H 𝓜 𝓖) (𝓜 .mem) (𝓡 .run) (tablesOf 𝓤 H 𝓜 (tables 𝓤 H 𝓜 𝓡 code.env))
-    (cited 𝓤 H (End 𝓤 H (𝓖 .A) (𝓜 .mem) (𝓡 .run)) 𝓜 𝓡 code.env #end end-def.routine code.calls-stream·in-place·end-in-place (end-thm.met 𝓤 H 𝓜 𝓖 𝓡)))
+    (cited 𝓤 H (End 𝓤 H (𝓖 .A) (𝓜 .mem) (𝓡 .run)) 𝓜 𝓡 code.env #end end-def.routine code.calls-in-place·end-in-place (end-thm.met 𝓤 H 𝓜 𝓖 𝓡)))

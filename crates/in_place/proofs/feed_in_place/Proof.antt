@@ -1,4 +1,4 @@
--- `stream::in_place::feed_in_place` meets its contract: a walk of its MIR, by hand. The borrow of the record is opened, the record is copied out whole, and `feed` is called on the copy, on `piece` and on `out`, which is given up to it for good.
+-- `in_place::feed_in_place` meets its contract: a walk of its MIR, by hand. The borrow of the record is opened, the record is copied out whole, and `feed` is called on the copy, on `piece` and on `out`, which is given up to it for good.
 -- Of what `feed` returns the record is stored behind the borrow, which is closed at it, and the other two fields are the result. All that the proof knows of `feed` is that it meets its contract.
 use mathlib.Core.Path.{_≡_, refl, ap}
 use Prim.Native.Nat.{ℕ}
@@ -41,25 +41,25 @@ use denote.Exit.{yes}
 use Rattle.stream_spec.specs.Stream.{feed as fedBy, outputAfter}
 use Rattle.stream_spec.specs.declared.Stream.{Stream}
 use Rattle.stream_spec.specs.declared.Fed.{Fed}
-use Rattle.stream_spec.specs.declared.in_place.Reply.{Reply}
-use Rattle.stream.proofs.Lent.{mach, Known, typed, made, opened}
-use Rattle.stream.proofs.Stream as T
-use Rattle.stream.proofs.Fed as F
-use Rattle.stream.proofs.Fed.Laws as F′
-use Rattle.stream.proofs.in_place.Reply as P
-use Rattle.stream.proofs.in_place.Reply.Laws as P′
+use Rattle.in_place.specs.declared.Reply.{Reply}
+use Rattle.in_place.proofs.Lent.{mach, Known, typed, made, opened}
+use Rattle.stream_spec.proofs.Stream as T
+use Rattle.stream_spec.proofs.Fed as F
+use Rattle.stream_spec.proofs.Fed.Laws as F′
+use Rattle.in_place.proofs.Reply as P
+use Rattle.in_place.proofs.Reply.Laws as P′
 use Rattle.stream.proofs.feed as feed
 use Rattle.stream.proofs.feed.Symbol as feed-def
 use Rattle.stream.proofs.feed.Symbol.{name as #feed}
 use Rattle.stream.proofs.feed.Met as feed-thm
-use Rattle.stream.proofs.in_place.feed_in_place.Key.{name as #fun}
-use Rattle.stream.proofs.in_place.feed_in_place as fun
-use Rattle.stream.proofs.in_place.feed_in_place.Statement as stated
-use Rattle.stream.proofs.in_place.feed_in_place.Code as code
+use Rattle.in_place.proofs.feed_in_place.Key.{name as #fun}
+use Rattle.in_place.proofs.feed_in_place as fun
+use Rattle.in_place.proofs.feed_in_place.Statement as stated
+use Rattle.in_place.proofs.feed_in_place.Code as code
 
 -- what is told of what `feed` returned
 abbrev replyOf : Fed → Reply
-replyOf f = record { number = f .number; released = f .released }
+replyOf f = record { answer = f .answer; released = f .released }
 
 abbrev stayed : Stays (fun.ended .signature .params) (fun.ended .kept)
 stayed = (stay-ref (0 ∷ []) tt (plain (λ _. T.the-row)), (stay-none-slice (1 ∷ []) tt (plain (λ _. u8)) yes, (gave-slice (2 ∷ []) tt (plain (λ _. u8)), tt)))
@@ -117,7 +117,7 @@ module _ {M : Type 1} (𝓤 : URA M) (H : Heap 𝓤) (A : Atoms 𝓤) (W : Given
   exits f zs e l is =
       qed W (‵ (fobs γ (T.the-row .coded .code (f .stream))) ∷ ‵ (fbor κ (Body (mem T.the-row) b o γ)) ∷ ‵ (flft κ q) ∷ (‵ (flft κ₁ q₁) ⊛ ‵ (flft κ₂ q₂) ⊛ ‵ ftrue) ∷ ‵ read ∷ ‵ (finally u8 (name w) zs) ∷ []) ∵
       suffices ! _ (ends-at 𝓤 H A fun.ended stayed (fun.clauses 𝓤 H A at-mem run) W y (told f) (replyOf f) (f .stream, (tt, (zs, tt))) (tt, (tt, (l, tt)))) $
-      says ! (ap (λ (d : Fed). d .number) (e .0), ap (λ (d : Fed). d .released) (e .0), ap (λ (d : Fed). d .stream) (e .0), e .1) $ move ! (2 ∷ 3 ∷ []) $ join ! $ frame ! $
+      says ! (ap (λ (d : Fed). d .answer) (e .0), ap (λ (d : Fed). d .released) (e .0), ap (λ (d : Fed). d .stream) (e .0), e .1) $ move ! (2 ∷ 3 ∷ []) $ join ! $ frame ! $
       feqI ! (List Val) (vptr b o ∷ []) (vptr b o ∷ []) refl $ fjoin3 ! $ nothing ! $ move ! (3 ∷ 0 ∷ []) $ fjoin ! $ move ! (2 ∷ 0 ∷ []) $ fjoin ! $ move ! (1 ∷ 0 ∷ []) $ fjoin ! $
       owned ! P.the-row (Is P.the-row) ((LL.makes P.the-type P′.the-plain) 𝓤 H A) (replyOf f) _ is $ move ! (1 ∷ 0 ∷ []) $ done !
 

@@ -1,4 +1,4 @@
--- `stream::in_place::feed_lent` meets its contract: a walk of its MIR, by hand. The record is copied into a local, which is lent to `feed_in_place` for a lifetime that is made for the call; `out` is given up to it for good.
+-- `in_place::feed_lent` meets its contract: a walk of its MIR, by hand. The record is copied into a local, which is lent to `feed_in_place` for a lifetime that is made for the call; `out` is given up to it for good.
 -- All that the proof knows of `feed_in_place` is that it meets its contract.
 use mathlib.Core.Path.{_≡_, refl, ap}
 use Prim.Native.Nat.{ℕ}
@@ -39,26 +39,26 @@ use denote.Exit.{yes}
 use Rattle.stream_spec.specs.Stream.{feed as fedBy, outputAfter}
 use Rattle.stream_spec.specs.declared.Stream.{Stream}
 use Rattle.stream_spec.specs.declared.Fed.{Fed}
-use Rattle.stream_spec.specs.declared.in_place.Reply.{Reply}
-use Rattle.stream.proofs.Lent.{mach, Known, ref, lent, typed, made, lends, back}
-use Rattle.stream.proofs.Stream as T
-use Rattle.stream.proofs.Stream.Laws as T′
-use Rattle.stream.proofs.Fed as F
-use Rattle.stream.proofs.Fed.Laws as F′
-use Rattle.stream.proofs.in_place.Reply as P
-use Rattle.stream.proofs.in_place.Reply.Laws as P′
-use Rattle.stream.proofs.in_place.feed_in_place as feed
-use Rattle.stream.proofs.in_place.feed_in_place.Symbol as feed-def
-use Rattle.stream.proofs.in_place.feed_in_place.Symbol.{name as #feed}
-use Rattle.stream.proofs.in_place.feed_in_place.Met as feed-thm
-use Rattle.stream.proofs.in_place.feed_lent.Key.{name as #fun}
-use Rattle.stream.proofs.in_place.feed_lent as fun
-use Rattle.stream.proofs.in_place.feed_lent.Statement as stated
-use Rattle.stream.proofs.in_place.feed_lent.Code as code
+use Rattle.in_place.specs.declared.Reply.{Reply}
+use Rattle.in_place.proofs.Lent.{mach, Known, ref, lent, typed, made, lends, back}
+use Rattle.stream_spec.proofs.Stream as T
+use Rattle.stream_spec.proofs.Stream.Laws as T′
+use Rattle.stream_spec.proofs.Fed as F
+use Rattle.stream_spec.proofs.Fed.Laws as F′
+use Rattle.in_place.proofs.Reply as P
+use Rattle.in_place.proofs.Reply.Laws as P′
+use Rattle.in_place.proofs.feed_in_place as feed
+use Rattle.in_place.proofs.feed_in_place.Symbol as feed-def
+use Rattle.in_place.proofs.feed_in_place.Symbol.{name as #feed}
+use Rattle.in_place.proofs.feed_in_place.Met as feed-thm
+use Rattle.in_place.proofs.feed_lent.Key.{name as #fun}
+use Rattle.in_place.proofs.feed_lent as fun
+use Rattle.in_place.proofs.feed_lent.Statement as stated
+use Rattle.in_place.proofs.feed_lent.Code as code
 
 -- what is made of a reply and the record
 abbrev fedOf : Reply → Stream → Fed
-fedOf f d = record { number = f .number; released = f .released; stream = d }
+fedOf f d = record { answer = f .answer; released = f .released; stream = d }
 
 abbrev stayed : Stays (fun.ended .signature .params) (fun.ended .kept)
 stayed = (stay-none (λ _. T.the-row) yes, (stay-none-slice (0 ∷ []) tt (plain (λ _. u8)) yes, (gave-slice (1 ∷ []) tt (plain (λ _. u8)), tt)))
@@ -97,7 +97,7 @@ module _ {M : Type 1} (𝓤 : URA M) (H : Heap 𝓤) (A : Atoms 𝓤) (W : Given
 
   -- what `feed_in_place` says of its result, of the last record and of the last list behind `out`
   abbrev Said : Reply → Stream → List ℕ → Type 0
-  Said f d zs = (f .number ≡ fedBy h (now p) (length (now w)) .number) × (f .released ≡ fedBy h (now p) (length (now w)) .released) × (d ≡ fedBy h (now p) (length (now w)) .stream) × (zs ≡ outputAfter h (now p) (now w))
+  Said f d zs = (f .answer ≡ fedBy h (now p) (length (now w)) .answer) × (f .released ≡ fedBy h (now p) (length (now w)) .released) × (d ≡ fedBy h (now p) (length (now w)) .stream) × (zs ≡ outputAfter h (now p) (now w))
 
   -- the result's machine value, and what is known of it
   abbrev told : Reply → Stream → Val
@@ -111,7 +111,7 @@ module _ {M : Type 1} (𝓤 : URA M) (H : Heap 𝓤) (A : Atoms 𝓤) (W : Given
   exits f d zs e l g is =
       qed W ((‵ (flft κ₁ q₁) ⊛ ‵ (flft κ₂ q₂) ⊛ ‵ ftrue) ∷ ‵ read ∷ ‵ (finally u8 (name w) zs) ∷ []) ∵
       suffices ! _ (ends-at 𝓤 H A fun.ended stayed (fun.clauses 𝓤 H A at-mem run) W y (told f d) (fedOf f d) (tt, (tt, (zs, tt))) (tt, (tt, (l, tt)))) $
-      says ! ((λ i. record { number = e .0 i; released = e .1 i; stream = e .2 i }), e .3) $ frame ! $
+      says ! ((λ i. record { answer = e .0 i; released = e .1 i; stream = e .2 i }), e .3) $ frame ! $
       nothing ! $ move ! (2 ∷ 0 ∷ []) $ fjoin ! $ move ! (1 ∷ 0 ∷ []) $ fjoin ! $ made ! h g $ fjoin ! $
       owned ! F.the-row (Is F.the-row) ((LL.makes F.the-type F′.the-plain) 𝓤 H A) (fedOf f d) _ is $ move ! (1 ∷ 0 ∷ []) $ done !
 
@@ -163,4 +163,4 @@ feed-lent-spec 𝓤 H 𝓜 𝓖 𝓡 =
     entered 𝓤 H (tripleOf 𝓤 H (𝓖 .A) fun.signature (fun.spec 𝓤 H (𝓖 .A) (𝓜 .mem) (𝓡 .run)))
     (tables 𝓤 H 𝓜 𝓡 code.env .C) (tables 𝓤 H 𝓜 𝓡 code.env .Λ) #fun code.function (code.unfolded 𝓤 H 𝓜 𝓡)
     (meets 𝓤 H (𝓖 .A) (givenOf 𝓤 H 𝓜 𝓖) (𝓜 .mem) (𝓡 .run) (tablesOf 𝓤 H 𝓜 (tables 𝓤 H 𝓜 𝓡 code.env))
-    (cited 𝓤 H (Feed 𝓤 H (𝓖 .A) (𝓜 .mem) (𝓡 .run)) 𝓜 𝓡 code.env #feed feed-def.routine code.calls-stream·in-place·feed-in-place (feed-thm.met 𝓤 H 𝓜 𝓖 𝓡)))
+    (cited 𝓤 H (Feed 𝓤 H (𝓖 .A) (𝓜 .mem) (𝓡 .run)) 𝓜 𝓡 code.env #feed feed-def.routine code.calls-in-place·feed-in-place (feed-thm.met 𝓤 H 𝓜 𝓖 𝓡)))
