@@ -3,7 +3,7 @@ ghost use mathlib.Core.Path.{_≡_};
 ghost use lib.ListN.{length};
 ghost use Rattle.octets.specs.Answers.{answer};
 ghost use Rattle.modes_spec.specs.declared.Direction.the-variants.{Lock, Open};
-ghost use Rattle.sample_spec.specs.Sample.{sampleRows, sampleAfter};
+ghost use Rattle.sample_spec.specs.Sample.{inputs, sampleRows, sampleAfter};
 
 #[no_mangle]
 pub extern "C" fn cenc_lock(
@@ -13,8 +13,8 @@ pub extern "C" fn cenc_lock(
     key_record: &[u8],
     sample: &mut [u8],
 ) -> u8
-    ensures { λ r. ⌜ (r ≡ answer (sampleRows (now (scheme .entry)) (now («track_box» .entry)) (now (auxiliary .entry)) (now («key_record» .entry)) (length (now (sample .entry)))))
-        × (now (sample .exit) ≡ sampleAfter Lock (now (scheme .entry)) (now («track_box» .entry)) (now (auxiliary .entry)) (now («key_record» .entry)) (now (sample .entry))) ⌝ }
+    ensures { λ r. ⌜ (r ≡ answer (sampleRows (inputs (now (scheme .entry)) (now («track_box» .entry)) (now (auxiliary .entry)) (now («key_record» .entry))) (length (now (sample .entry)))))
+        × (now (sample .exit) ≡ sampleAfter Lock (inputs (now (scheme .entry)) (now («track_box» .entry)) (now (auxiliary .entry)) (now («key_record» .entry))) (now (sample .entry))) ⌝ }
 {
     sample::lock(scheme, track_box, auxiliary, key_record, sample)
 }
@@ -27,8 +27,8 @@ pub extern "C" fn cenc_open(
     key_record: &[u8],
     sample: &mut [u8],
 ) -> u8
-    ensures { λ r. ⌜ (r ≡ answer (sampleRows (now (scheme .entry)) (now («track_box» .entry)) (now (auxiliary .entry)) (now («key_record» .entry)) (length (now (sample .entry)))))
-        × (now (sample .exit) ≡ sampleAfter Open (now (scheme .entry)) (now («track_box» .entry)) (now (auxiliary .entry)) (now («key_record» .entry)) (now (sample .entry))) ⌝ }
+    ensures { λ r. ⌜ (r ≡ answer (sampleRows (inputs (now (scheme .entry)) (now («track_box» .entry)) (now (auxiliary .entry)) (now («key_record» .entry))) (length (now (sample .entry)))))
+        × (now (sample .exit) ≡ sampleAfter Open (inputs (now (scheme .entry)) (now («track_box» .entry)) (now (auxiliary .entry)) (now («key_record» .entry))) (now (sample .entry))) ⌝ }
 {
     sample::open(scheme, track_box, auxiliary, key_record, sample)
 }

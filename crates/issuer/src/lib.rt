@@ -9,8 +9,8 @@ pub use issuer_spec::Issuer;
 pub use issuer_spec::IvSize;
 pub use issuer_spec::Started;
 pub use issuer_spec::refusal;
-use track::StartVector;
-use track::refusal::DONE;
+use track_spec::StartVector;
+use track_spec::refusal::DONE;
 
 // The first eight bytes.
 fn first_eight(bytes: &[u8]) -> [u8; 8]

@@ -11,18 +11,15 @@ use borrow.Author.Tests.{le-ltb, ne-eqb}
 use Rattle.octets.specs.Bytes.{digits, filled}
 use Rattle.octets.proofs.Bytes.{length-digits, filled-short, filled-all, getD-listOf}
 use Rattle.modes_spec.specs.Modes.{counterAt}
-use Rattle.track_spec.specs.declared.Parameters.{Parameters}
 use Rattle.subsample_spec.specs.Auxiliary.{ivRead}
-use Rattle.scheme.specs.Layout.{schemeOf}
-use Rattle.scheme.specs.Counters.{blocksNeeded, counterBlocks}
-use Rattle.scheme.proofs.Counters.{count-total}
-use Rattle.sample_spec.proofs.Accepted.{accepted-length}
-use Rattle.sample_spec.proofs.Counters.{blocks-fit}
+use Rattle.scheme.specs.Counters.{counterBlocks}
+use Rattle.sample_spec.specs.Sample.{Inputs, parametersOf, ivOf}
+use Rattle.sample_spec.proofs.Counters.{blocks-fit, blocks-by-length}
 use Rattle.issuer_spec.specs.declared.IvSize.the-variants.{Eight, Sixteen}
 use Rattle.issuer_spec.specs.declared.Issuer.{Issuer}
 use Rattle.issuer_spec.specs.Issuer.{mostBlocks, start, vector, badCount}
 use Rattle.issuer_spec.specs.Grants.{grantAt, advanced, Covers}
-use Rattle.issuer_spec.specs.Archive.{Sample, parameters, layout, ivOf, answerTo, needed, blockOf, LockedWith}
+use Rattle.issuer_spec.specs.Archive.{Sample, answerTo, needed, blockOf, LockedWith}
 use Rattle.issuer_spec.proofs.Order.{never-again, in-order}
 use Rattle.issuer_spec.proofs.Starting.{Begun, eight, sixteen, refused, begun, first-length}
 use Rattle.issuer_spec.proofs.NeverTwice.{vector-length, never-twice}
@@ -31,18 +28,11 @@ use Rattle.issuer_spec.proofs.NeverTwice.{vector-length, never-twice}
 
 -- an accepted sample never needs more than a grant may name
 pub needs-at-most : (x : Sample) → answerTo x ≡ 0 → needed x ≤ mostBlocks
-needs-at-most x h = blocks-fit (x .code) (x .box) (x .auxiliary) (x .keys) (x .length) h
+needs-at-most x h = blocks-fit (x .inputs) (x .length) h
 
 -- a count of its length by 16, rounded up, is always enough
 pub needs-by-length : (x : Sample) → answerTo x ≡ 0 → needed x ≤ (x .length + 15) / 16
-unfolding blocksNeeded
-needs-by-length x h =
-    let p = parameters x in
-    omega (
-      arith,
-      count-total (schemeOf (p .code)) (p .crypt) (p .skip) (layout x),
-      accepted-length (x .code) (x .box) (x .auxiliary) (x .keys) (x .length) h,
-    )
+needs-by-length x h = blocks-by-length (x .inputs) (x .length) h
 
 -- its own count is allowed, where it needs any
 pub count-allowed : (x : Sample) → answerTo x ≡ 0 → 1 ≤ needed x → badCount (needed x) ≡ false
@@ -50,9 +40,9 @@ count-allowed x h l = rw (le-ltb (needed x) 1 l, le-ltb mostBlocks (needed x) (n
 
 -- ---- Two samples.
 
-block-is : (x : Sample) (a : ℕ) → a < needed x → blockOf x a ≡ counterAt (ivOf x) a
+block-is : (x : Sample) (a : ℕ) → a < needed x → blockOf x a ≡ counterAt (ivOf (x .inputs)) a
 unfolding counterBlocks
-block-is x a h = getD-listOf (needed x) (counterAt (ivOf x)) [] a h
+block-is x a h = getD-listOf (needed x) (counterAt (ivOf (x .inputs))) [] a h
 
 module _ (bytes counts : List ℕ) where
   -- a block that a sample needs is one that its grant covers
@@ -86,9 +76,9 @@ filled-sixteen f v l =
     rw (take-all 16 (vector Sixteen f v) (omega arith)) (filled-all 16 (vector Sixteen f v) n)
 
 -- Auxiliary data that begins with a granted start vector, as many bytes of it as the issuer was started from, has that IV.
-module _ (bytes counts : List ℕ) (k : ℕ) (a : grantAt (start bytes .issuer) counts k .answer ≡ 0) (p : Parameters)
-    (s : p .«iv_size» ≡ length bytes) (aux : List ℕ)
-    (e : take (length bytes) aux ≡ take (length bytes) (grantAt (start bytes .issuer) counts k .vector .0)) where
+module _ (bytes counts : List ℕ) (k : ℕ) (a : grantAt (start bytes .issuer) counts k .answer ≡ 0) (x : Inputs)
+    (s : parametersOf x .«iv_size» ≡ length bytes)
+    (e : take (length bytes) (x .auxiliary) ≡ take (length bytes) (grantAt (start bytes .issuer) counts k .vector .0)) where
   abbrev i : Issuer
   i = start bytes .issuer
 
@@ -104,9 +94,9 @@ module _ (bytes counts : List ℕ) (k : ℕ) (a : grantAt (start bytes .issuer) 
       (rw (l, h) (filled-sixteen (i .first) v (first-length bytes)), omega arith)
   granted-vector (refused f) = absurd (never-again i (rw f) counts k a)
 
-  pub iv-handed-on : ivRead p aux ≡ grantAt i counts k .vector .0
-  unfolding ivRead
+  pub iv-handed-on : ivOf x ≡ grantAt i counts k .vector .0
+  unfolding ivOf ivRead
   iv-handed-on =
       let g = granted-vector (begun bytes) in
       let z : length bytes ≡ 0 → ⊥ = λ n. omega arith in
-      rw (s, ne-eqb (length bytes) 0 z, and-false (eqb (p .protected) 1), e) (g .0)
+      rw (s, ne-eqb (length bytes) 0 z, and-false (eqb (parametersOf x .protected) 1), e) (g .0)

@@ -3,7 +3,7 @@ pub mod refusal;
 
 ghost use mathlib.Core.Path.{_≡_};
 ghost use Rattle.issuer_spec.specs.Issuer as spec;
-use track::StartVector;
+use track_spec::StartVector;
 
 // How many bytes of a start vector the track's samples carry.
 pub enum IvSize {

@@ -8,21 +8,18 @@ use lib.Seq.{length-take-le, take-add, take-all, take-at, drop-at, drop-drop}
 use borrow.Author.Tests.{eq-eqb, ne-eqb, lt-ltb, le-ltb}
 use Rattle.octets.specs.Answers.{answer}
 use Rattle.modes_spec.specs.declared.Direction.the-variants.{Open}
-use Rattle.track_spec.specs.declared.Parameters.{Parameters}
-use Rattle.track_spec.specs.Track.{fields}
-use Rattle.subsample_spec.specs.Auxiliary.{mapRead, ivRead}
-use Rattle.subsample_spec.specs.declared.SubsampleMap.{SubsampleMap}
-use Rattle.sample_spec.specs.Sample.{keyIn, sampleRows}
+use Rattle.sample_spec.specs.Sample.{Inputs, OfBytes, ivOf, sampleRows}
 use Rattle.sample_spec.proofs.RoundTrip.{length-after}
+use Rattle.stream_spec.specs.declared.Declared.{Declared}
 use Rattle.stream_spec.specs.declared.Stream.{Stream}
 use Rattle.stream_spec.specs.declared.Started.{Started}
-use Rattle.stream_spec.specs.Stream.{start, due, fedBy, feed, outputAfter, end}
-use Rattle.stream_spec.specs.Demand3.{Feeding, Ending, Reply, countAt, dueAt, feeding, ending, replyAt, pieceAt, make, heldFrom}
+use Rattle.stream_spec.specs.Stream.{heldBy, declaredBy, start, due, fedBy, feed, outputAfter, end}
+use Rattle.stream_spec.specs.Demand3.{Feeding, Ending, Reply, countAt, dueAt, feeding, ending, replyAt, pieceAt, make}
 use Rattle.stream_spec.proofs.Accepted.{rules}
 use Rattle.stream_spec.proofs.Reached.{Rules, fed, at, at-sum, Moves, moves}
 use Rattle.stream_spec.proofs.Feeding.{released-fits}
 use Rattle.stream_spec.proofs.Demand3.{accepts, begun, all-of-it}
-use Rattle.pieces.specs.Pieces.{number, output}
+use Rattle.pieces.specs.Pieces.{answered, output}
 
 none : (l : List ℕ) → length l ≡ 0 → l ≡ []
 none [] e = refl
@@ -30,7 +27,7 @@ none (x ∷ l) e = absurd (omega arith)
 
 -- what an accepted feeding does not release stays
 rest-stays : (t : Stream) (piece out o : List ℕ) → o ≡ outputAfter t piece out → length o ≡ length out
-    → feed t piece (length out) .number ≡ 0
+    → feed t piece (length out) .answer ≡ 0
     → drop (feed t piece (length out) .released) o ≡ drop (feed t piece (length out) .released) out
 unfolding feed outputAfter
 rest-stays t piece out o e l z =
@@ -39,27 +36,15 @@ rest-stays t piece out o e l z =
     let a : length (fedBy t piece .released) ≡ due t (length piece) = omega (arith, l, simp (length-append, length-drop) at (ap length f)) in
     rw (z, f) (drop-at (fedBy t piece .released) (drop (due t (length piece)) out) (due t (length piece)) a)
 
--- A call: its inputs, and the output as it was lent.
+-- A call: its inputs, the sample, and the output as it was lent.
 pub record Call : Type 0 where
-  pub code : List ℕ
-  pub box : List ℕ
-  pub auxiliary : List ℕ
-  pub keys : List ℕ
+  pub inputs : Inputs
   pub contents : List ℕ
   pub output : List ℕ
 
 module _ (c : Call) where
-  abbrev code : List ℕ
-  code = c .code
-
-  abbrev box : List ℕ
-  box = c .box
-
-  abbrev aux : List ℕ
-  aux = c .auxiliary
-
-  abbrev keys : List ℕ
-  keys = c .keys
+  abbrev i : Inputs
+  i = c .inputs
 
   abbrev xs : List ℕ
   xs = c .contents
@@ -70,33 +55,26 @@ module _ (c : Call) where
   abbrev n : ℕ
   n = length xs
 
-  abbrev p : Parameters
-  p = fields code box
-
-  abbrev m : SubsampleMap
-  m = mapRead p aux
-
-  abbrev key : List ℕ
-  key = keyIn p keys
+  abbrev q : Declared
+  q = declaredBy Open i n
 
   abbrev iv : List ℕ
-  iv = ivRead p aux
+  iv = ivOf i
 
   abbrev held : ℕ → ℕ
-  held x = heldFrom code box aux n x
+  held x = heldBy q x
 
   -- the record after the first x bytes, and the bytes released
   abbrev recordAt : ℕ → Stream
-  recordAt x = at Open p m n key iv (take x xs)
+  recordAt x = at q iv (take x xs)
 
   abbrev releasedAt : ℕ → List ℕ
-  releasedAt x = fed Open p m n key iv (take x xs) .released
+  releasedAt x = fed q iv (take x xs) .released
 
   -- What a call says that isn't refused, and what holds of any: bytes are below 256, lengths fit 64 bits.
   pub record Accepted : Type 0 where
-    pub box-bytes : (i : ℕ) → getD box i 0 < 256
-    pub aux-bytes : (i : ℕ) → getD aux i 0 < 256
-    pub started : start Open code box aux keys n .number ≡ 0
+    pub bytes : OfBytes i
+    pub started : start Open i n .answer ≡ 0
     pub room : n ≤ length out₀
     pub output-fits : length out₀ < 2 ^ 64
 
@@ -109,44 +87,44 @@ module _ (c : Call) where
     pub output : out ≡ releasedAt x ++ drop d out₀
 
   module _ (k : Accepted) where
-    done-rows : answer (sampleRows code box aux keys n) ≡ 0
-    done-rows = accepts Open code box aux keys n (k .box-bytes) (k .aux-bytes) (k .started)
+    done-rows : answer (sampleRows i n) ≡ 0
+    done-rows = accepts Open i n (k .bytes) (k .started)
 
-    allowed : Rules p m n
-    allowed = rules code box aux keys n done-rows
+    allowed : Rules q
+    allowed = rules i n done-rows Open
 
     sum-at : (x : ℕ) → x ≤ n → length (releasedAt x) + held x ≡ x
     sum-at x l =
         let e = length-take-le x xs l in
-        rw e at (at-sum Open p m n key iv (take x xs))
+        rw e at (at-sum q iv (take x xs))
 
-    pub begin : Progress out₀ (start Open code box aux keys n .stream) 0 0
+    pub begin : Progress out₀ (start Open i n .stream) 0 0
     begin =
         let z = none (releasedAt 0) (omega (arith, sum-at 0 (omega arith))) in
         record {
           call = k;
           within = omega arith;
-          stream = begun Open code box aux keys n (k .box-bytes) (k .aux-bytes) (k .started);
+          stream = begun Open i n (k .bytes) (k .started);
           done = sym (ap length z);
           output = rw z;
         }
 
-    number-is : number code box aux keys xs out₀ ≡ 0
-    unfolding number
-    number-is = rw (eq-eqb (answer (sampleRows code box aux keys n)) 0 done-rows, le-ltb (length out₀) n (k .room))
+    answer-is : answered i xs out₀ ≡ 0
+    unfolding answered
+    answer-is = rw (eq-eqb (answer (sampleRows i n)) 0 done-rows, le-ltb (length out₀) n (k .room))
 
-    all-released : releasedAt n ++ drop (length (releasedAt n)) out₀ ≡ output code box aux keys xs out₀
+    all-released : releasedAt n ++ drop (length (releasedAt n)) out₀ ≡ output i xs out₀
     unfolding output
     all-released =
-        let a = ap (λ (ys : List ℕ). fed Open p m n key iv ys .released) (take-all n xs (omega arith)) in
-        let b = all-of-it Open code box aux keys n (k .box-bytes) (k .aux-bytes) (k .started) xs refl in
-        rw (a ∙ b, length-after code box aux keys Open xs, number-is)
+        let a = ap (λ (ys : List ℕ). fed q iv ys .released) (take-all n xs (omega arith)) in
+        let b = all-of-it Open i n (k .bytes) (k .started) xs refl in
+        rw (a ∙ b, length-after i Open xs, answer-is)
 
-    end-number : end (recordAt n) .number ≡ 0
+    end-answer : end (recordAt n) .answer ≡ 0
     unfolding make replyAt ending
-    end-number =
+    end-answer =
         let e = take-all n xs (omega arith) in
-        ap (λ (y : Reply). y .number) (moves Open p m n key iv (take n xs) allowed (omega (arith, ap length e)) Ending .reply)
+        ap (λ (y : Reply). y .answer) (moves q iv (take n xs) allowed (omega (arith, ap length e)) Ending .reply)
         ∙ rw (e, eq-eqb n n refl)
 
   module _ {out : List ℕ} {t : Stream} {x d : ℕ} (g : Progress out t x d) where
@@ -186,8 +164,8 @@ module _ (c : Call) where
           let q : x + (e - x) ≡ e = omega arith in
           rw q at (sym (take-add x (e - x) xs))
 
-      move : Moves Open p m n key iv (take x xs) (Feeding piece lent)
-      move = moves Open p m n key iv (take x xs) (allowed (g .call)) (omega (arith, length-at, g .within)) (Feeding piece lent)
+      move : Moves q iv (take x xs) (Feeding piece lent)
+      move = moves q iv (take x xs) (allowed (g .call)) (omega (arith, length-at, g .within)) (Feeding piece lent)
 
       -- there is room for what the piece makes due
       due-fits : dueAt held x (e - x) ≤ length out₀ - d
@@ -196,7 +174,7 @@ module _ (c : Call) where
           let q : x + (e - x) ≡ e = omega arith in
           rw q (omega (arith, sum-at (g .call) x (g .within), g .done, g .call .room))
 
-      accepted : feeding held n (length (take x xs)) (length piece) (length lent) .number ≡ 0
+      accepted : feeding held n (length (take x xs)) (length piece) (length lent) .answer ≡ 0
       unfolding feeding
       accepted =
           rw (
@@ -207,9 +185,9 @@ module _ (c : Call) where
             le-ltb (length out₀ - d) (dueAt held x (e - x)) due-fits,
           )
 
-      number-done : feed t piece (length lent) .number ≡ 0
+      answer-done : feed t piece (length lent) .answer ≡ 0
       unfolding make replyAt
-      number-done = rw (g .stream) (ap (λ (y : Reply). y .number) (move .reply) ∙ accepted)
+      answer-done = rw (g .stream) (ap (λ (y : Reply). y .answer) (move .reply) ∙ accepted)
 
       stream-next : feed t piece (length lent) .stream ≡ recordAt e
       unfolding make pieceAt
@@ -222,7 +200,7 @@ module _ (c : Call) where
 
         rest-next : drop (feed t piece (length lent) .released) o ≡ drop (d + feed t piece (length lent) .released) out₀
         rest-next =
-            rest-stays t piece lent o eo lo number-done ∙ ap (drop (feed t piece (length lent) .released)) lent-is
+            rest-stays t piece lent o eo lo answer-done ∙ ap (drop (feed t piece (length lent) .released)) lent-is
             ∙ drop-drop (feed t piece (length lent) .released) d out₀
 
         done-next : d + feed t piece (length lent) .released ≡ length (releasedAt e)
@@ -248,31 +226,31 @@ module _ (c : Call) where
 
     -- ---- The end.
 
-    pub ended : n ≤ x → (end t .number ≡ number code box aux keys xs out₀) × (out ≡ output code box aux keys xs out₀)
+    pub ended : n ≤ x → (end t .answer ≡ answered i xs out₀) × (out ≡ output i xs out₀)
     ended l =
         let q : x ≡ n = omega (arith, g .within) in (
-          ap (λ (y : Stream). end y .number) (g .stream) ∙ rw q (end-number (g .call)) ∙ sym (number-is (g .call)),
+          ap (λ (y : Stream). end y .answer) (g .stream) ∙ rw q (end-answer (g .call)) ∙ sym (answer-is (g .call)),
           g .output ∙ rw (g .done, q) (all-released (g .call)),
         )
 
 -- ---- Refused: the start, or an output that is too short.
 
-module _ (code box aux keys xs out : List ℕ) where
-  refused-number : (k : ℕ) → number code box aux keys xs out ≡ k → (k ≡ 0 → ⊥)
-      → (k ≡ number code box aux keys xs out) × (out ≡ output code box aux keys xs out)
+module _ (i : Inputs) (xs out : List ℕ) where
+  refused-answer : (k : ℕ) → answered i xs out ≡ k → (k ≡ 0 → ⊥)
+      → (k ≡ answered i xs out) × (out ≡ output i xs out)
   unfolding output
-  refused-number k e z = (sym e, rw (e, ne-eqb k 0 z))
+  refused-answer k e z = (sym e, rw (e, ne-eqb k 0 z))
 
-  module _ (b : Started) (e : b ≡ start Open code box aux keys (length xs)) where
-    pub start-refused : (b .number ≡ 0 → ⊥)
-        → (b .number ≡ number code box aux keys xs out) × (out ≡ output code box aux keys xs out)
-    unfolding start number
+  module _ (b : Started) (e : b ≡ start Open i (length xs)) where
+    pub start-refused : (b .answer ≡ 0 → ⊥)
+        → (b .answer ≡ answered i xs out) × (out ≡ output i xs out)
+    unfolding start answered
     start-refused z =
-        refused-number (b .number) (rw (e, ne-eqb (answer (sampleRows code box aux keys (length xs))) 0 (λ k. z (rw e k)))) z
+        refused-answer (b .answer) (rw (e, ne-eqb (answer (sampleRows i (length xs))) 0 (λ k. z (rw e k)))) z
 
-    pub output-short : b .number ≡ 0 → length out < length xs
-        → (15 ≡ number code box aux keys xs out) × (out ≡ output code box aux keys xs out)
-    unfolding start number
+    pub output-short : b .answer ≡ 0 → length out < length xs
+        → (15 ≡ answered i xs out) × (out ≡ output i xs out)
+    unfolding start answered
     output-short z l =
-        let q : answer (sampleRows code box aux keys (length xs)) ≡ 0 = rw e at z in
-        refused-number 15 (rw (eq-eqb _ 0 q, lt-ltb (length out) (length xs) l)) (λ k. absurd (omega (arith, k)))
+        let q : answer (sampleRows i (length xs)) ≡ 0 = rw e at z in
+        refused-answer 15 (rw (eq-eqb _ 0 q, lt-ltb (length out) (length xs) l)) (λ k. absurd (omega (arith, k)))

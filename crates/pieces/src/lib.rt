@@ -1,21 +1,15 @@
 // A sample opened in pieces of one size, from C: for measurements.
 ghost use mathlib.Core.Path.{_≡_};
-ghost use Prim.Native.Nat.{min, max};
+ghost use Prim.Native.Nat.{max};
 ghost use lib.ListN.{length};
+ghost use Rattle.sample_spec.specs.Sample.{inputs};
 ghost use Rattle.stream_spec.specs.Stream as streams;
 ghost use Rattle.pieces.specs.Pieces as spec;
 use modes::Direction;
 use stream::Fed;
 use stream::Stream;
-use stream::in_place;
 use stream::refusal::OUTPUT;
 use track::refusal::DONE;
-
-fn least(a: usize, b: usize) -> usize
-    ensures { λ r. ⌜ r ≡ min a b ⌝ }
-{
-    if a < b { a } else { b }
-}
 
 fn at_least_one(n: usize) -> usize
     ensures { λ r. ⌜ r ≡ max n 1 ⌝ }
@@ -47,8 +41,8 @@ pub extern "C" fn pieces_open(
     data: &[u8],
     out: &mut [u8],
 ) -> u8
-    ensures { λ r. ⌜ (r ≡ spec.number (now (scheme .entry)) (now («track_box» .entry)) (now (auxiliary .entry)) (now («key_record» .entry)) (now («data» .entry)) (now (out .entry)))
-        × (now (out .exit) ≡ spec.output (now (scheme .entry)) (now («track_box» .entry)) (now (auxiliary .entry)) (now («key_record» .entry)) (now («data» .entry)) (now (out .entry))) ⌝ }
+    ensures { λ r. ⌜ (r ≡ spec.answered (inputs (now (scheme .entry)) (now («track_box» .entry)) (now (auxiliary .entry)) (now («key_record» .entry))) (now («data» .entry)) (now (out .entry)))
+        × (now (out .exit) ≡ spec.output (inputs (now (scheme .entry)) (now («track_box» .entry)) (now (auxiliary .entry)) (now («key_record» .entry))) (now («data» .entry)) (now (out .entry))) ⌝ }
 {
     let started = stream::start(
         Direction::Open,
@@ -58,8 +52,8 @@ pub extern "C" fn pieces_open(
         key_record,
         data.len(),
     );
-    if started.number != DONE {
-        return started.number;
+    if started.answer != DONE {
+        return started.answer;
     }
     if out.len() < data.len() {
         return OUTPUT;
@@ -69,7 +63,7 @@ pub extern "C" fn pieces_open(
     let mut at = 0;
     let mut done = 0;
     while at < data.len() {
-        let end = at + least(most, data.len() - at);
+        let end = at + octets::least(most, data.len() - at);
         // Not refused: the output has room for the whole sample.
         let fed = feed(in_place, stream, &data[at..end], &mut out[done..]);
         let next = fed.stream;
@@ -77,5 +71,5 @@ pub extern "C" fn pieces_open(
         done += fed.released;
         at = end;
     }
-    stream::end(stream).number
+    stream::end(stream).answer
 }

@@ -35,7 +35,6 @@ module _ (i : Inputs) (n : ℕ) (h : answer (sampleRows i n) ≡ 0) where
       go false = refl
 
   pub rules : (d : Direction) → Rules (declaredBy d i n)
-  unfolding declaredBy
   rules d =
       record {
         parameters = parameters-done;

@@ -125,7 +125,7 @@ module _ (d : Direction) (i : Inputs) (n : ℕ) (ok : OfBytes i) (h : start d i 
     -- what the pieces a of a sample release is the beginning of what the whole-sample call makes of it
     begins-with : (a rest : List ℕ) → xs ≡ a ++ rest
         → fed q iv a .released ≡ take (length a - heldFrom i n (length a)) (sampleAfter d i xs)
-    unfolding machine declaredBy cipheredBy
+    unfolding machine cipheredBy
     begins-with a rest e =
         let t : take (length a) xs ≡ a = ap (take (length a)) e ∙ take-append-seam a rest in
         let u : length a ≤ length xs = omega (arith, ap length e, length-append a rest) in
@@ -136,7 +136,7 @@ module _ (d : Direction) (i : Inputs) (n : ℕ) (ok : OfBytes i) (h : start d i 
 
     -- all of it releases all of that
     pub all-of-it : fed q iv xs .released ≡ sampleAfter d i xs
-    unfolding machine declaredBy cipheredBy
+    unfolding machine cipheredBy
     all-of-it =
         rw whole-is
         (rw l at
@@ -156,11 +156,10 @@ module _ (d : Direction) (i : Inputs) (n : ℕ) (ok : OfBytes i) (h : start d i 
     ran = runs q iv (rules i n accepts d) calls [] (omega arith)
 
     joined : released (run (start d i n .stream) calls) ≡ fed q iv a .released
-    unfolding declaredBy
     joined = rw begun (rw fed-none at (ran .released))
 
     ended : end (recordAfter (start d i n .stream) calls) .answer ≡ ending (heldFrom i n) n x .answer
-    unfolding make replyAt declaredBy
+    unfolding make replyAt
     ended =
         rw (begun, ran .last) (ap (λ (y : Reply). y .answer) (moves q iv a (rules i n accepts d) (ran .within) Ending .reply))
 
@@ -176,27 +175,15 @@ module _ (d : Direction) (i : Inputs) (n : ℕ) (ok : OfBytes i) (h : start d i 
     end-only : end (recordAfter (start d i n .stream) calls) .answer ≡ 0 → x ≡ n
     end-only z = end-at (eqb x n) refl (sym ended ∙ z)
 
-    sum : length (fed q iv a .released) + heldFrom i n x ≡ x
-    unfolding declaredBy
-    sum = at-sum q iv a
-
-    most : heldFrom i n x ≤ 15
-    unfolding declaredBy
-    most = few q x
-
-    same-replies : replies (run (start d i n .stream) calls) ≡ account (heldFrom i n) n 0 calls
-    unfolding declaredBy
-    same-replies = rw begun (ran .replies)
-
     holds : Demand3 d i n calls
     unfolding countAt
     holds =
         record {
-          replies = same-replies;
+          replies = rw begun (ran .replies);
           bytes = λ xs rest e l. joined ∙ begins-with xs l a rest e;
-          count = ap length joined ∙ omega (arith, sum);
-          held-within = omega (arith, sum);
-          held-few = most;
+          count = ap length joined ∙ omega (arith, at-sum q iv a);
+          held-within = omega (arith, at-sum q iv a);
+          held-few = few q x;
           end-done = λ e. ended ∙ end-zero e;
           end-only = end-only;
           all = λ z. joined ∙ all-of-it a (end-only z);

@@ -196,7 +196,7 @@ module _ {i j : Inputs} (s : AlikeInputs i j) (d d′ : Direction) (n : ℕ) whe
   start-alike = inputs-alike s n
 
   declared-alike : AlikeDeclared (declaredBy d i n) (declaredBy d′ j n)
-  unfolding declaredBy parametersOf
+  unfolding parametersOf
   declared-alike =
       record {
         parameters = rw (s .code) (track.parameters-alike (boxes-alike s) (j .code));

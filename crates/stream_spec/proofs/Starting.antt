@@ -27,7 +27,7 @@ module _ (d : Direction) (i : Inputs) (n : ℕ) (r : InputsRead) (e : r ≡ read
         };
       }
       ≡ start d i n
-  unfolding start declaredBy
+  unfolding start
   start-accepted z =
       let h : answer (sampleRows i n) ≡ 0 = sym by-table ∙ z in
       rw (h, e, inputs-accepted i n h)

@@ -64,7 +64,7 @@ idle =
 
 -- ---- The start: 1 to 12, with a declared length in place of the sample.
 
-unfoldable pub declaredBy : Direction → Inputs → ℕ → Declared
+abbrev pub declaredBy : Direction → Inputs → ℕ → Declared
 declaredBy d i n =
     record { direction = d; parameters = parametersOf i; length = n; map = mapOf i; key = record { 0 = keyOf i } }
 

@@ -1,6 +1,8 @@
+-- the places: a piece fed, the loop's head, the start made, and what was lent
 use mathlib.Core.Path.{_≡_, ap, _∙_}
 use Prim.Native.Nat.{ℕ, _+_, _-_, _^_, _≤_, _<_, min}
 use lib.ListN.{length, length-take, length-drop}
+use Rattle.sample_spec.specs.Sample.{Inputs, inputs, OfBytes}
 use Rattle.stream_spec.specs.declared.Ended.{Ended}
 use Rattle.stream_spec.proofs.Feeding.{released-fits}
 use Rattle.pieces.proofs.LentEnd.{put-end}
@@ -12,12 +14,36 @@ use Rattle.pieces.proofs.pieces_open.Tie as tie
 
 abbrev Inv-loop : tie.InvT-loop
 Inv-loop scheme track-box auxiliary key-record in-place size «data» out₀ most stream₀ at₀ done₀ out stream at done =
-    Progress
-    (record { code = scheme; box = track-box; auxiliary = auxiliary; keys = key-record; contents = «data»; output = out₀ })
-    out stream at done
+    Progress (record { inputs = inputs scheme track-box auxiliary key-record; contents = «data»; output = out₀ }) out stream at done
 
 abbrev μ-loop : tie.MeasureT-loop
 μ-loop scheme track-box auxiliary key-record in-place size «data» out₀ most stream₀ at₀ done₀ out stream at done = length «data» - at
+
+abbrev fed : tie.After-struct-known2 Inv-loop μ-loop → tie.After-feed Inv-loop μ-loop
+fed c = c .before .before .before .before
+
+abbrev cut : tie.After-feed Inv-loop μ-loop → tie.After-least Inv-loop μ-loop
+cut c = c .before .before .before
+
+abbrev begun : tie.After-stream Inv-loop μ-loop → tie.After-start Inv-loop μ-loop
+begun c = c .before .before .before .before .before
+
+abbrev lent : tie.After-start Inv-loop μ-loop → tie.After-shared-slice-known3 Inv-loop μ-loop
+lent c = c .before .before .before .before
+
+abbrev start : tie.After-shared-slice-known3 Inv-loop μ-loop → tie.Start Inv-loop μ-loop
+start c = c .before .before .before
+
+-- what was handed in
+abbrev given : tie.Start Inv-loop μ-loop → Inputs
+given s = inputs (s .args .scheme .now) (s .args .«track-box» .now) (s .args .auxiliary .now) (s .args .«key-record» .now)
+
+of-bytes : (c : tie.After-shared-slice-known3 Inv-loop μ-loop) → OfBytes (given (start c))
+of-bytes c =
+    record {
+      box = λ k. omega (arith, c .before .shared-slice-known2 .given k);
+      auxiliary = λ k. omega (arith, c .shared-slice-known3 .given k);
+    }
 
 -- a piece ends within the sample
 within : (x k most n : ℕ) → k ≡ min most (n - x) → x ≤ n → x + k ≤ n
@@ -28,33 +54,36 @@ output-fits s = search needs
 
 returns : tie.Need-returns Inv-loop μ-loop
 returns c =
-    let a = c .before .before .before .before .before .before .before .before .before .args in
-    start-refused (a .scheme .now) (a .«track-box» .now) (a .auxiliary .now) (a .«key-record» .now) (a .«data» .now) (a .out .now)
-    (c .before .before .start .result) (c .before .before .start .ensures) (c .if1 .taken)
+    let b = c .before .before in
+    let s = start (lent b) in
+    start-refused (given s) (s .args .«data» .now) (s .args .out .now) (b .start .result) (b .start .ensures) (c .if1 .taken)
 
 returns-2 : tie.Need-returns-2 Inv-loop μ-loop
 returns-2 c =
-    let a = c .before .before .before .before .before .before .before .before .before .before .args in
-    output-short (a .scheme .now) (a .«track-box» .now) (a .auxiliary .now) (a .«key-record» .now) (a .«data» .now) (a .out .now)
-    (c .before .before .before .start .result) (c .before .before .before .start .ensures) (c .before .if1 .left) (c .if2 .taken)
+    let b = c .before .before .before in
+    let s = start (lent b) in
+    output-short (given s) (s .args .«data» .now) (s .args .out .now) (b .start .result) (b .start .ensures) (c .before .if1 .left)
+    (c .if2 .taken)
 
 loop-holds : tie.Need-loop-holds Inv-loop μ-loop
 loop-holds c =
-    rw (c .before .before .before .before .before .start .ensures)
+    let b = begun c in
+    rw (b .start .ensures)
     (begin _
     (record {
-      box-bytes = λ i. omega (arith, c .before .before .before .before .before .before .before .before .before .before .shared-slice-known2 .given i);
-      aux-bytes = λ i. omega (arith, c .before .before .before .before .before .before .before .before .before .shared-slice-known3 .given i);
-      started = rw (c .before .before .before .before .before .start .ensures) at (c .before .before .before .if1 .left);
+      bytes = of-bytes (lent b);
+      started = rw (b .start .ensures) at (c .before .before .before .if1 .left);
       room = omega (arith, c .before .before .if2 .left);
-      output-fits = output-fits (c .before .before .before .before .before .before .before .before .before .before .before .before);
+      output-fits = output-fits (start (lent b));
     }))
 
 sub-least : tie.Need-sub-least Inv-loop μ-loop
 sub-least c = omega (arith, c .before .loop .inv .within)
 
 add-end : tie.Need-add-end Inv-loop μ-loop
-add-end c = omega (arith, c .least .ensures, c .before .before .loop .inv .within, c .before .before .loop .inv .call .room, c .before .before .loop .inv .call .output-fits)
+add-end c =
+    let l = c .before .before .loop in
+    omega (arith, c .least .ensures, l .inv .within, l .inv .call .room, l .inv .call .output-fits)
 
 sub-feed : tie.Need-sub-feed Inv-loop μ-loop
 sub-feed c = omega arith
@@ -66,27 +95,36 @@ part-feed-end : tie.Need-part-feed-end Inv-loop μ-loop
 part-feed-end c = omega (arith, c .least .ensures, c .before .before .loop .inv .within)
 
 sub-feed-2 : tie.Need-sub-feed-2 Inv-loop μ-loop
-sub-feed-2 c = omega (arith, length-out _ (c .before .before .before .loop .inv), room _ (c .before .before .before .loop .inv))
+sub-feed-2 c =
+    let l = c .before .before .before .loop in
+    omega (arith, length-out _ (l .inv), room _ (l .inv))
 
 part-feed-start-2 : tie.Need-part-feed-start-2 Inv-loop μ-loop
-part-feed-start-2 c = omega (arith, length-out _ (c .before .before .before .loop .inv), room _ (c .before .before .before .loop .inv))
+part-feed-start-2 c =
+    let l = c .before .before .before .loop in
+    omega (arith, length-out _ (l .inv), room _ (l .inv))
 
 part-feed-end-2 : tie.Need-part-feed-end-2 Inv-loop μ-loop
 part-feed-end-2 c = omega arith
 
 add-done : tie.Need-add-done Inv-loop μ-loop
 add-done c =
-    let r = simp (length-take, length-drop) at (released-fits _ _ _ _ (c .before .before .before .before .feed .ensures .0)) in
-    omega (arith, r, length-out _ (c .before .before .before .before .before .before .before .before .before .loop .inv), room _ (c .before .before .before .before .before .before .before .before .before .loop .inv), c .before .before .before .before .before .before .before .before .before .loop .inv .call .output-fits)
+    let f = fed c in
+    let l = cut f .before .before .loop in
+    let r = simp (length-take, length-drop) at (released-fits _ _ _ _ (f .feed .ensures .0)) in
+    omega (arith, r, length-out _ (l .inv), room _ (l .inv), l .inv .call .output-fits)
 
 loop-less : tie.Need-loop-less Inv-loop μ-loop
-loop-less c = omega (arith, c .before .before .before .before .before .before .before .least .ensures, c .before .before .before .before .before .before .before .before .loop-test .taken, c .before .before .before .before .before .before .before .before .before .before .before .at-least-one .ensures)
+loop-less c =
+    let k = cut (fed c) in
+    let i = k .before in
+    omega (arith, k .least .ensures, i .loop-test .taken, i .before .before .before .at-least-one .ensures)
 
 loop-again : tie.Need-loop-again Inv-loop μ-loop
 loop-again c =
-    let l = c .before .before .before .before .before .before .before .before .before .loop in
-    let f = c .before .before .before .before .feed in
-    let k = c .before .before .before .before .before .before .before .least in
+    let f = fed c .feed in
+    let k = cut (fed c) .least in
+    let l = cut (fed c) .before .before .loop in
     let o = f .last .1 .1 .1 .0 in
     rw (f .ensures .0)
     (further _ (l .inv) (l .at + k .result) (omega arith) (within (l .at) (k .result) _ _ (k .ensures) (l .inv .within)) o
@@ -98,7 +136,7 @@ same-length c = length-out _ (c .before .before .loop .inv)
 returns-3 : tie.Need-returns-3 Inv-loop μ-loop
 returns-3 c =
     let s = ended _ (c .before .before .loop .inv) (omega (arith, c .before .loop-test .left)) in
-    (ap (λ (y : Ended). y .number) (c .end .ensures) ∙ s .0, s .1)
+    (ap (λ (y : Ended). y .answer) (c .end .ensures) ∙ s .0, s .1)
 
 pub pieces-open-spec : {M : Type 1} → statement M
 pieces-open-spec =
