@@ -3,7 +3,6 @@ ghost use Prim.Native.Nat.{_≤_};
 ghost use lib.ListN.{length};
 use crate::files;
 use stream::Stream;
-use stream::in_place;
 use subsample::SubsampleMap;
 use track::refusal::DONE;
 
@@ -50,12 +49,12 @@ impl Turn {
 
 // Ends a stream.
 fn end(stream: Stream) -> Ending {
-    let number = in_place::end_lent(stream).number;
-    if number == stream::refusal::EARLY {
+    let answer = in_place::end_lent(stream).answer;
+    if answer == stream::refusal::EARLY {
         return Ending::Early;
     }
-    if number != DONE {
-        return Ending::Refused(number);
+    if answer != DONE {
+        return Ending::Refused(answer);
     }
     Ending::Done
 }
@@ -67,8 +66,8 @@ fn feed_piece(stream: Stream, piece: &[u8], out: &mut [u8], output: i32) -> Turn
     let fed = in_place::feed_lent(stream, piece, out);
     let next = fed.stream;
     let released = fed.released;
-    if fed.number != DONE {
-        return Turn::last(Ending::Refused(fed.number), next);
+    if fed.answer != DONE {
+        return Turn::last(Ending::Refused(fed.answer), next);
     }
     if !io::write_all(output, &out[0..released]) {
         return Turn::last(Ending::Unwritten, next);

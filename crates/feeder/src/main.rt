@@ -62,8 +62,8 @@ fn begin(direction: Direction, length: usize) -> Begun {
         &key_record[0..key_length],
         length,
     );
-    if started.number != DONE {
-        tell::refused(started.number);
+    if started.answer != DONE {
+        tell::refused(started.answer);
         return Begun::failed();
     }
     let stream = started.stream;
@@ -74,8 +74,8 @@ fn begin(direction: Direction, length: usize) -> Begun {
 fn came_to_end(ending: Ending, input_name: &[u8], output_name: &[u8]) -> bool {
     match ending {
         Ending::Done => true,
-        Ending::Refused(number) => {
-            tell::refused(number);
+        Ending::Refused(answer) => {
+            tell::refused(answer);
             false
         }
         Ending::Unread => {

@@ -21,10 +21,10 @@ pub(crate) fn done(written: u64) -> bool {
     false
 }
 
-// `refused NUMBER`.
-pub(crate) fn refused(number: u8) {
+// `refused ANSWER`.
+pub(crate) fn refused(answer: u8) {
     io::write_all(STDOUT_FILENO, b"refused ");
-    io::print_decimal(STDOUT_FILENO, number as u64);
+    io::print_decimal(STDOUT_FILENO, answer as u64);
     io::write_all(STDOUT_FILENO, b"\n");
 }
 

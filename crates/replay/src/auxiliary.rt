@@ -78,12 +78,12 @@ fn answer_read(
     let read = subsample::read(
         &bytes[0..code],
         &bytes[code..track_box],
-        sample_length,
         &bytes[track_box..aux],
+        sample_length,
     );
     let m = read.map;
     let iv = read.iv;
-    let at = output::number_then(read.number as u64, b' ', out, at);
+    let at = output::number_then(read.answer as u64, b' ', out, at);
     let at = map(m, out, at);
     let at = output::byte(b' ', out, at);
     output::bytes(&iv.bytes(), out, at)

@@ -45,7 +45,7 @@ fn answer_read(bytes: &[u8], code: usize, end: usize, out: &mut Buffer, at: usiz
 {
     let read = track::read(&bytes[0..code], &bytes[code..end]);
     let p = read.parameters;
-    let at = output::number_then(read.number as u64, b' ', out, at);
+    let at = output::number_then(read.answer as u64, b' ', out, at);
     parameters(p, out, at)
 }
 
@@ -109,6 +109,6 @@ pub(crate) fn write(line: &[u8], lent: &mut [u8], out: &mut Buffer, at: usize) -
 fn answer_write(p: Parameters, lent: &mut [u8], out: &mut Buffer, at: usize) -> usize {
     let written = track::write(p, lent);
     let length = written.length;
-    let at = output::number_then(written.number as u64, b' ', out, at);
+    let at = output::number_then(written.answer as u64, b' ', out, at);
     output::bytes(&lent[0..length], out, at)
 }

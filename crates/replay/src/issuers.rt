@@ -37,7 +37,7 @@ fn reply(issuer: Issuer, blocks: u64, out: &mut Buffer, at: usize) -> Replied {
     let vector = granted.vector;
     let next = granted.issuer;
     let at = output::byte(b' ', out, at);
-    let at = output::number_then(granted.number as u64, b'/', out, at);
+    let at = output::number_then(granted.answer as u64, b'/', out, at);
     Replied {
         issuer: next,
         end: output::bytes(&vector.bytes(), out, at),
@@ -62,14 +62,14 @@ fn replies(start: Issuer, counts: &[u8], out: &mut Buffer, at: usize) -> usize {
     text
 }
 
-// `issuer START COUNT..`, answered by the start's number and the replies.
+// `issuer START COUNT..`, answered by the start's answer and the replies.
 pub(crate) fn grants(line: &[u8], bytes: &mut Bytes, out: &mut Buffer, at: usize) -> usize {
     let place = Place::read(words::word(line, 1), bytes, 0);
     let counts = words::after(line, 1);
     if place.good && are_counts(counts) {
         let started = start(bytes, place.end);
         let issuer = started.issuer;
-        let at = output::number(started.number as u64, out, at);
+        let at = output::number(started.answer as u64, out, at);
         replies(issuer, counts, out, at)
     } else {
         output::malformed(out, at)

@@ -11,6 +11,8 @@ use crate::values::Sixteen;
 use crate::words;
 use aes::Key;
 use modes::Direction;
+use stream::Declared;
+use stream::Progress;
 use stream::Stream;
 use subsample::SubsampleMap;
 use track::Kid;
@@ -196,15 +198,19 @@ impl Record {
                 && held.good
                 && held_count.good,
             stream: Stream {
-                direction,
-                parameters,
-                length: length.value as usize,
-                map: entries,
-                position: position.value as usize,
-                key: Key::new(key_bytes),
-                block: block_bytes,
-                held: held_bytes,
-                held_count: held_count.value as usize,
+                declared: Declared {
+                    direction,
+                    parameters,
+                    length: length.value as usize,
+                    map: entries,
+                    key: Key::new(key_bytes),
+                },
+                progress: Progress {
+                    position: position.value as usize,
+                    block: block_bytes,
+                    held: held_bytes,
+                    held_count: held_count.value as usize,
+                },
             },
         }
     }
@@ -218,15 +224,15 @@ fn write_direction(direction: Direction, out: &mut Buffer, at: usize) -> usize {
 }
 
 // `DIRECTION [PARAMS] LENGTH [COUNT ENTRIES]`.
-fn write_declared(stream: Stream, out: &mut Buffer, at: usize) -> usize {
-    let direction = stream.direction;
-    let parameters = stream.parameters;
-    let map = stream.map;
+fn write_declared(declared: Declared, out: &mut Buffer, at: usize) -> usize {
+    let direction = declared.direction;
+    let parameters = declared.parameters;
+    let map = declared.map;
     let at = write_direction(direction, out, at);
     let at = output::text(b" [", out, at);
     let at = boxes::parameters(parameters, out, at);
     let at = output::text(b"] ", out, at);
-    let at = output::number(stream.length as u64, out, at);
+    let at = output::number(declared.length as u64, out, at);
     let at = output::text(b" [", out, at);
     let at = auxiliary::map(map, out, at);
     output::byte(b']', out, at)
@@ -239,15 +245,17 @@ fn write_sixteen(bytes: [u8; 16], out: &mut Buffer, at: usize) -> usize {
 
 // `DIRECTION [PARAMS] LENGTH [COUNT ENTRIES] POSITION KEY BLOCK HELD HELDCOUNT`.
 pub(crate) fn write(stream: Stream, out: &mut Buffer, at: usize) -> usize {
-    let key = stream.key;
+    let declared = stream.declared;
+    let progress = stream.progress;
+    let key = declared.key;
     let key_bytes = key.0;
-    let block = stream.block;
-    let held = stream.held;
-    let at = write_declared(stream, out, at);
+    let block = progress.block;
+    let held = progress.held;
+    let at = write_declared(declared, out, at);
     let at = output::byte(b' ', out, at);
-    let at = output::number_then(stream.position as u64, b' ', out, at);
+    let at = output::number_then(progress.position as u64, b' ', out, at);
     let at = write_sixteen(key_bytes, out, at);
     let at = write_sixteen(block, out, at);
     let at = write_sixteen(held, out, at);
-    output::number(stream.held_count as u64, out, at)
+    output::number(progress.held_count as u64, out, at)
 }

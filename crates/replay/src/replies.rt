@@ -77,7 +77,7 @@ fn end(stream: Stream, out: &mut Buffer, at: usize) -> Replied {
     let ended = stream::end(stream);
     Replied {
         stream,
-        end: output::number_then(ended.number as u64, b' ', out, at),
+        end: output::number_then(ended.answer as u64, b' ', out, at),
     }
 }
 
@@ -86,7 +86,7 @@ fn feed(stream: Stream, piece: &[u8], lent: &mut [u8], out: &mut Buffer, at: usi
     let fed = stream::feed(stream, piece, lent);
     let released = fed.released;
     let next = fed.stream;
-    let at = output::number_then(fed.number as u64, b'/', out, at);
+    let at = output::number_then(fed.answer as u64, b'/', out, at);
     Replied {
         stream: next,
         end: output::bytes_then(&lent[0..released], b' ', out, at),

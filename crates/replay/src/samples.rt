@@ -77,7 +77,7 @@ fn answer(
 ) -> usize
     requires { ⌜ (code ≤ «track_box») × («track_box» ≤ aux) × (aux ≤ keys) × (keys ≤ length (now bytes)) ⌝ }
 {
-    let number = transform(
+    let answered = transform(
         opening,
         &bytes[0..code],
         &bytes[code..track_box],
@@ -85,7 +85,7 @@ fn answer(
         &bytes[aux..keys],
         contents,
     );
-    let at = output::number_then(number as u64, b' ', out, at);
+    let at = output::number_then(answered as u64, b' ', out, at);
     output::bytes(contents, out, at)
 }
 

@@ -13,7 +13,7 @@ use crate::words;
 use modes::Direction;
 use stream::Started;
 
-// `stream DIRECTION CODE BOX AUX KEYS LENGTH CALL..`, answered by the start's number, the replies and the record.
+// `stream DIRECTION CODE BOX AUX KEYS LENGTH CALL..`, answered by the start's answer, the replies and the record.
 pub(crate) fn declared(
     line: &[u8],
     bytes: &mut Bytes,
@@ -43,7 +43,7 @@ pub(crate) fn declared(
             length.value as usize,
         );
         let stream = started.stream;
-        let at = output::number_then(started.number as u64, b' ', out, at);
+        let at = output::number_then(started.answer as u64, b' ', out, at);
         replies::replies(stream, calls, bytes, lent, out, at)
     } else {
         output::malformed(out, at)

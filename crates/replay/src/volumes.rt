@@ -18,7 +18,7 @@ fn written(w: Written, lent: &[u8], out: &mut Buffer, at: usize) -> usize
     requires { ⌜ w .length ≤ length (now lent) ⌝ }
 {
     let size = w.length;
-    let at = output::number_then(w.number as u64, b' ', out, at);
+    let at = output::number_then(w.answer as u64, b' ', out, at);
     output::bytes(&lent[0..size], out, at)
 }
 
@@ -56,28 +56,28 @@ fn answer_check(bytes: &[u8], end: usize, out: &mut Buffer, at: usize) -> usize
     output::number(volume::check(&bytes[0..end]) as u64, out, at)
 }
 
-// `vrecord VOLUME NUMBER`, answered `NUMBER BYTES`.
+// `vrecord VOLUME INDEX`, answered `NUMBER BYTES`.
 pub(crate) fn record(line: &[u8], bytes: &mut Bytes, out: &mut Buffer, at: usize) -> usize {
     let place = Place::read(words::word(line, 1), bytes, 0);
-    let number = Number::read(words::rest(line, 2), u64::MAX);
-    if place.good && number.good {
-        answer_record(bytes, place.end, number.value, out, at)
+    let index = Number::read(words::rest(line, 2), u64::MAX);
+    if place.good && index.good {
+        answer_record(bytes, place.end, index.value, out, at)
     } else {
         output::malformed(out, at)
     }
 }
 
-fn answer_record(bytes: &[u8], end: usize, number: u64, out: &mut Buffer, at: usize) -> usize
+fn answer_record(bytes: &[u8], end: usize, index: u64, out: &mut Buffer, at: usize) -> usize
     requires { ⌜ end ≤ length (now bytes) ⌝ }
 {
-    handed_out(&bytes[0..end], number, out, at)
+    handed_out(&bytes[0..end], index, out, at)
 }
 
-fn handed_out(volume: &[u8], number: u64, out: &mut Buffer, at: usize) -> usize {
-    let found = volume::record(volume, number);
+fn handed_out(volume: &[u8], index: u64, out: &mut Buffer, at: usize) -> usize {
+    let found = volume::record(volume, index);
     let from = found.offset;
     let end = from + found.length;
-    let at = output::number_then(found.number as u64, b' ', out, at);
+    let at = output::number_then(found.answer as u64, b' ', out, at);
     output::bytes(&volume[from..end], out, at)
 }
 
@@ -150,13 +150,13 @@ fn answer_add(
     written(w, lent, out, at)
 }
 
-// `vdispose VOLUME NUMBER TODAY`, answered `NUMBER`.
+// `vdispose VOLUME INDEX TODAY`, answered `NUMBER`.
 pub(crate) fn dispose(line: &[u8], bytes: &mut Bytes, out: &mut Buffer, at: usize) -> usize {
     let place = Place::read(words::word(line, 1), bytes, 0);
-    let number = Number::read(words::word(line, 2), u64::MAX);
+    let index = Number::read(words::word(line, 2), u64::MAX);
     let today = Number::read(words::rest(line, 3), DAYS);
-    if place.good && number.good && today.good {
-        answer_dispose(bytes, place.end, number.value, today.value as u32, out, at)
+    if place.good && index.good && today.good {
+        answer_dispose(bytes, place.end, index.value, today.value as u32, out, at)
     } else {
         output::malformed(out, at)
     }
@@ -165,13 +165,13 @@ pub(crate) fn dispose(line: &[u8], bytes: &mut Bytes, out: &mut Buffer, at: usiz
 fn answer_dispose(
     bytes: &[u8],
     end: usize,
-    number: u64,
+    index: u64,
     today: u32,
     out: &mut Buffer,
     at: usize,
 ) -> usize
     requires { ⌜ end ≤ length (now bytes) ⌝ }
 {
-    let answered = volume::disposable(&bytes[0..end], number, today);
+    let answered = volume::disposable(&bytes[0..end], index, today);
     output::number(answered as u64, out, at)
 }

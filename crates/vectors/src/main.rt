@@ -255,11 +255,11 @@ fn patterned_samples(cbcs: &[u8], cens: &[u8]) {
     locked_line(b"sample 5 63 ", b"cens", cens, &iv, &mut odd);
 }
 
-// A line with the number that reading auxiliary data answers.
-fn sample_line(text: &[u8], code: &[u8], track_box: &[u8], length: usize, auxiliary: &[u8]) {
-    let read = subsample::read(code, track_box, length, auxiliary);
+// A line with what reading auxiliary data answers.
+fn sample_line(text: &[u8], code: &[u8], track_box: &[u8], auxiliary: &[u8], length: usize) {
+    let read = subsample::read(code, track_box, auxiliary, length);
     print(text);
-    print_number(read.number as usize);
+    print_number(read.answer as usize);
     print(b"\n");
 }
 
@@ -269,15 +269,15 @@ fn cenc_samples(track_box: &[u8]) {
         b"sample 8 empty ",
         b"cenc",
         track_box,
-        0,
         b"\x00\x00\x00\x00\x00\x00\x00\x00\x00\x01\x00\x00\x00\x00\x00\x00",
+        0,
     );
     sample_line(
         b"sample 8 one byte ",
         b"cenc",
         track_box,
-        1,
         b"\x00\x00\x00\x00\x00\x00\x00\x00\x00\x02\x00\x01\x00\x00\x00\x00\x00\x00\x00\x00\x00\x00",
+        1,
     );
 }
 
@@ -287,15 +287,15 @@ fn cbc1_samples(track_box: &[u8]) {
         b"sample 9 32 ",
         b"cbc1",
         track_box,
-        32,
         b"\x00\x00\x00\x00\x00\x00\x00\x00\x00\x00\x00\x00\x00\x00\x00\x00\x00\x01\x00\x00\x00\x00\x00\x20",
+        32,
     );
     sample_line(
         b"sample 9 31 ",
         b"cbc1",
         track_box,
-        31,
         b"\x00\x00\x00\x00\x00\x00\x00\x00\x00\x00\x00\x00\x00\x00\x00\x00\x00\x01\x00\x00\x00\x00\x00\x1f",
+        31,
     );
 }
 
@@ -311,10 +311,10 @@ fn unit_entries(count: u16, out: &mut [u8]) {
 fn cbcs_samples(track_box: &[u8]) {
     let mut most = [0u8; 386];
     unit_entries(64, &mut most);
-    sample_line(b"sample 10 64 entries ", b"cbcs", track_box, 64, &most);
+    sample_line(b"sample 10 64 entries ", b"cbcs", track_box, &most, 64);
     let mut more = [0u8; 392];
     unit_entries(65, &mut more);
-    sample_line(b"sample 10 65 entries ", b"cbcs", track_box, 65, &more);
+    sample_line(b"sample 10 65 entries ", b"cbcs", track_box, &more, 65);
 }
 
 // Document 01's samples 1 to 5, and 8 to 11.
@@ -336,10 +336,10 @@ fn samples() {
         b"sample 11 short ",
         b"cenc",
         cenc,
-        0,
         b"\x00\x00\x00\x00\x00\x00\x00\x00\x00",
+        0,
     );
-    sample_line(b"sample 11 scheme and box ", b"cenx", b"tenc", 0, b"");
+    sample_line(b"sample 11 scheme and box ", b"cenx", b"tenc", b"", 0);
 }
 
 // FIPS 197, appendix B.

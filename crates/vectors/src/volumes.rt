@@ -6,25 +6,25 @@ use crate::print_all;
 use crate::print_number;
 use volume::Written;
 
-fn number_line(text: &[u8], number: u8) {
+fn answer_line(text: &[u8], answer: u8) {
     print(text);
-    print_number(number as usize);
+    print_number(answer as usize);
     print(b"\n");
 }
 
-// Two numbers, and the one answered to them.
-fn pair_line(text: &[u8], a: u8, b: u8, number: u8) {
+// Two numbers, and what is answered to them.
+fn pair_line(text: &[u8], a: u8, b: u8, answer: u8) {
     print(text);
     print_number(a as usize);
     print(b" ");
     print_number(b as usize);
-    number_line(b": ", number);
+    answer_line(b": ", answer);
 }
 
-// The number and the length, and what the output holds.
+// The answer and the length, and what the output holds.
 fn written_line(text: &[u8], written: Written, out: &[u8]) {
     print(text);
-    print_number(written.number as usize);
+    print_number(written.answer as usize);
     print(b" ");
     print_number(written.length);
     print(b" ");
@@ -43,13 +43,13 @@ fn add_line(text: &[u8], volume: &[u8], today: u32, out: &mut [u8]) {
     written_line(text, written, out);
 }
 
-// The number and the record's bytes.
-fn record_line(volume: &[u8], number: u64) {
-    let found = volume::record(volume, number);
+// The answer and the record's bytes.
+fn record_line(volume: &[u8], index: u64) {
+    let found = volume::record(volume, index);
     let from = found.offset;
     let end = from + found.length;
     print(b"volume record ");
-    print_number(found.number as usize);
+    print_number(found.answer as usize);
     print(b" ");
     print_all(&volume[from..end]);
     print(b"\n");
@@ -65,8 +65,8 @@ fn changed(volume: [u8; 75], place: usize, byte: u8) -> [u8; 75] {
 
 // The volume with another byte at a place, checked.
 fn changed_line(volume: [u8; 75], place: u8, byte: u8) {
-    let number = volume::check(&changed(volume, place as usize, byte));
-    pair_line(b"volume byte ", place, byte, number);
+    let answer = volume::check(&changed(volume, place as usize, byte));
+    pair_line(b"volume byte ", place, byte, answer);
 }
 
 // For each place and byte.
@@ -78,12 +78,12 @@ fn changed_lines(volume: [u8; 75], changes: &[u8]) {
     }
 }
 
-fn dispose_line(volume: &[u8], number: u8, today: u8) {
-    let answered = volume::disposable(volume, number as u64, today as u32);
-    pair_line(b"volume dispose ", number, today, answered);
+fn dispose_line(volume: &[u8], index: u8, today: u8) {
+    let answered = volume::disposable(volume, index as u64, today as u32);
+    pair_line(b"volume dispose ", index, today, answered);
 }
 
-// For each number of a record and today.
+// For each index of a record and today.
 fn dispose_lines(volume: &[u8], asked: &[u8]) {
     let mut i = 0;
     while i < asked.len() / 2 {
@@ -98,7 +98,7 @@ fn none() {
     empty_line(&mut short);
     let mut room = [1u8; 25];
     empty_line(&mut room);
-    number_line(b"volume of 23 bytes ", volume::check(&[0; 23]));
+    answer_line(b"volume of 23 bytes ", volume::check(&[0; 23]));
     record_line(&[0; 24], 0);
 }
 
@@ -116,7 +116,7 @@ fn added(two: &[u8], out: &mut [u8])
 fn last_day() {
     let one =
         b"\x00\x00\x00\x00\x00\x00\x00\x00\x00\x00\x00\x00\x00\x00\x00\x00\xff\xff\xff\xff\x00\x00\x00\x01\x00\x00\x00\x00\x00\x00\x00\x00\x00\x00\x00\x00\x00\x00\x00\x01\xff\xff\xff\xff\x00\x00\x00\x00";
-    number_line(
+    answer_line(
         b"volume dispose on the last day ",
         volume::disposable(one, 0, 4294967295),
     );
@@ -134,7 +134,7 @@ fn checked(two: [u8; 75]) {
     changed_lines(two, b"\x46\x0a\x46\x0c\x4a\x01");
 }
 
-// Records by number.
+// Records by index.
 fn handed_out(two: &[u8]) {
     record_line(two, 0);
     record_line(two, 1);

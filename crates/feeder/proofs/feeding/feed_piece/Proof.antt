@@ -11,7 +11,8 @@ part-write-all-end c =
 
 returns-3 : tie.Need-returns-3
 returns-3 c =
-    let f = c .before .before .before .before .before .before .before .before .before .feed-lent in
+    let p = c .before .before .before in
+    let f = p .before .before .before .before .before .before .feed-lent in
     omega (arith, released-fits _ _ _ _ (f .ensures .0))
 
 pub feed-piece-spec : {M : Type 1} → statement M

@@ -1,6 +1,6 @@
 use mathlib.Core.Path.{ap}
 use lib.ListN.{length}
-use Rattle.replay.proofs.Room.{written-fits}
+use Rattle.track_spec.proofs.Checking.{written-fits}
 use borrow.Author.Needs.{needs}
 use native.Mathlib.Omega.{arith}
 use Rattle.replay.proofs.boxes.answer_write.Statement.{statement}
@@ -8,8 +8,9 @@ use Rattle.replay.proofs.boxes.answer_write.Tie as tie
 
 part-bytes-end : tie.Need-part-bytes-end
 part-bytes-end c =
-    let w = c .before .before .before .before .before .before .write in
-    let a = c .before .before .before .before .before .before .before .before .before .args in
+    let b = c .before .before .before .before .before .before in
+    let w = b .write in
+    let a = b .before .before .before .args in
     omega (arith, ap (λ r. r .length) (w .ensures .0), written-fits (a .p) (length (a .lent .now)), w .kept .1 .0)
 
 pub answer-write-spec : {M : Type 1} → statement M

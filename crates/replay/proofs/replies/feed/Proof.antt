@@ -6,7 +6,8 @@ use Rattle.replay.proofs.replies.feed.Tie as tie
 
 part-bytes-then-end : tie.Need-part-bytes-then-end
 part-bytes-then-end c =
-    let f = c .before .before .before .before .before .before .before .feed in
+    let n = c .before .before in
+    let f = n .before .before .before .before .before .feed in
     omega (arith, released-fits _ _ _ _ (f .ensures .0), f .kept .1 .1 .0)
 
 pub feed-spec : {M : Type 1} → statement M

@@ -1,6 +1,6 @@
 use mathlib.Core.Path.{ap}
 use lib.ListN.{length}
-use Rattle.volume.proofs.Adding.{empty-within}
+use Rattle.volume_spec.proofs.Writing.{empty-within}
 use borrow.Author.Needs.{needs}
 use native.Mathlib.Omega.{arith}
 use Rattle.replay.proofs.volumes.answer_empty.Statement.{statement}
@@ -8,8 +8,10 @@ use Rattle.replay.proofs.volumes.answer_empty.Tie as tie
 
 written-requires : tie.Need-written-requires
 written-requires c κs =
-    let e = c .before .before .before .before .empty in
-    omega (arith, ap (λ w. w .length) (e .ensures .0), empty-within (length (c .before .before .before .before .before .before .before .args .lent .now)), e .kept .0)
+    let w = c .before .before .before .before in
+    let e = w .empty in
+    let s = w .before .before .before in
+    omega (arith, ap (λ w. w .length) (e .ensures .0), empty-within (length (s .args .lent .now)), e .kept .0)
 
 pub answer-empty-spec : {M : Type 1} → statement M
 answer-empty-spec =

@@ -1,5 +1,5 @@
 use mathlib.Core.Path.{ap}
-use Rattle.volume.proofs.Records.{found-within}
+use Rattle.volume_spec.proofs.Records.{found-within}
 use borrow.Author.Needs.{needs}
 use native.Mathlib.Omega.{arith}
 use Rattle.replay.proofs.volumes.handed_out.Statement.{statement}
@@ -9,13 +9,13 @@ add-end : tie.Need-add-end
 add-end c =
     let a = c .before .before .before .args in
     let e = c .before .«record» .ensures in
-    omega (arith, ap (λ f. f .offset) e, ap (λ f. f .length) e, found-within (a .volume .now) (a .number))
+    omega (arith, ap (λ f. f .offset) e, ap (λ f. f .length) e, found-within (a .volume .now) (a .index))
 
 part-bytes-end : tie.Need-part-bytes-end
 part-bytes-end c =
     let a = c .before .before .before .before .before .before .args in
     let e = c .before .before .before .before .«record» .ensures in
-    omega (arith, ap (λ f. f .offset) e, ap (λ f. f .length) e, found-within (a .volume .now) (a .number))
+    omega (arith, ap (λ f. f .offset) e, ap (λ f. f .length) e, found-within (a .volume .now) (a .index))
 
 pub handed-out-spec : {M : Type 1} → statement M
 handed-out-spec =
