@@ -1,12 +1,12 @@
 -- A feeding's answer and output, case by case in the order of its table.
 use mathlib.Core.Bool.{true, false, not}
 use mathlib.Core.List.{List, [], _∷_, _++_}
-use mathlib.Core.Path.{_≡_, refl, sym, ap, _∙_}
+use mathlib.Core.Path.{_≡_, sym, ap, _∙_}
 use Prim.Native.Nat.{ℕ, _+_, _-_, _≤_, _<_}
 use native.Mathlib.Omega.{arith}
 use lib.Dec.{ltb, eqb, lit<}
 use lib.ListN.{length, drop}
-use borrow.Author.Tests.{lt-ltb, le-ltb, eq-eqb, ne-eqb}
+use borrow.Author.Tests.{lt-ltb, le-ltb, ne-eqb}
 use Rattle.octets.specs.Answers.{row, answer}
 use Rattle.octets.proofs.Answers.{Refusals, none, more, room-fits, size-fits}
 use Rattle.scheme.specs.Machine.{feed as feedMachine, feedSample}
@@ -14,7 +14,7 @@ use Rattle.scheme.specs.Part.{feedUnder}
 use Rattle.stream_spec.specs.declared.Stream.{Stream}
 use Rattle.stream_spec.specs.declared.Checked.{Checked}
 use Rattle.stream_spec.specs.declared.Fed.{Fed}
-use Rattle.stream_spec.specs.Stream.{heldBy, sound, kept, due, feedRows, check, machine, fedBy, afterPiece, feed, outputAfter}
+use Rattle.stream_spec.specs.Stream.{sound, kept, due, feedRows, check, machine, fedBy, afterPiece, feed, outputAfter}
 use Rattle.stream_spec.proofs.Rules.{done-sound, done-within, empty-piece, none-due, position-within}
 
 -- ---- The table.

@@ -7,7 +7,7 @@ use Rattle.modes_spec.specs.declared.Direction.{Direction}
 use Rattle.sample_spec.specs.declared.InputsRead.{InputsRead}
 use Rattle.sample_spec.specs.Sample.{Inputs, sampleRows, handedOut, readInputs}
 use Rattle.sample_spec.proofs.Tables.{inputs-accepted}
-use Rattle.stream_spec.specs.Stream.{begun, idle, declaredBy, start}
+use Rattle.stream_spec.specs.Stream.{begun, idle, start}
 
 module _ (d : Direction) (i : Inputs) (n : ℕ) (r : InputsRead) (e : r ≡ readInputs i n) where
   by-table : r .answer ≡ answer (sampleRows i n)

@@ -1,12 +1,12 @@
 -- the places: the part transformed, the bytes that are due taken, and the start
-use mathlib.Core.Path.{_≡_, sym, ap, _∙_}
+use mathlib.Core.Path.{sym, ap, _∙_}
 use Prim.Native.Nat.{_+_, _≤_}
-use lib.ListN.{length, take}
+use lib.ListN.{length}
 use lib.Seq.{length-take-le}
 use Rattle.scheme.specs.Machine.{Stepped}
 use Rattle.joined.proofs.Joining.{joined-full}
 use Rattle.stream_spec.specs.Stream.{stateOf, due}
-use Rattle.stream_spec.proofs.Rules.{sound-rules, held-most, held-below, kept-few}
+use Rattle.stream_spec.proofs.Rules.{sound-rules, held-most, held-below}
 use Rattle.stream_spec.proofs.Releasing.{Places, fed-is, released-progress}
 use borrow.Author.Needs.{needs}
 use native.Mathlib.Omega.{arith}

@@ -1,6 +1,4 @@
 -- the places: the header stored, made, and the start
-use mathlib.Core.Path.{_≡_, sym, _∙_}
-use lib.ListN.{length}
 use Rattle.track_spec.proofs.RoundTrip.{Held, header-and-fields, size-between}
 use Rattle.track_spec.proofs.Storing.{stored-box}
 use borrow.Author.Needs.{needs}

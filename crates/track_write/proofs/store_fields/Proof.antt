@@ -1,9 +1,8 @@
 -- the places: the front stored, and the start
 use mathlib.Core.Bool.{true}
-use mathlib.Core.Path.{_≡_, sym, _∙_}
-use lib.ListN.{length}
+use mathlib.Core.Path.{sym, _∙_}
 use Rattle.track_spec.proofs.Codes.{allowed-small}
-use Rattle.track_spec.proofs.RoundTrip.{Held, length-fields}
+use Rattle.track_spec.proofs.RoundTrip.{Held}
 use Rattle.track_spec.proofs.Storing.{room-for, stored-plain, stored-constant}
 use borrow.Author.Needs.{needs}
 use native.Mathlib.Omega.{arith}
