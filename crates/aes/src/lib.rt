@@ -8,8 +8,7 @@ ghost use Rattle.fips197.specs.State as state;
 ghost use Rattle.fips197.specs.Cipher as spec;
 ghost use Rattle.fips197.specs.KeyExpansion as schedule;
 ghost use Rattle.fips197.specs.InvCipher as inverse;
-ghost use Rattle.fips197.proofs.SBox.{Tabulates};
-ghost use Rattle.fips197.proofs.KeyExpansion.{firstWord, nextKey};
+ghost use Rattle.fips197.specs.Table.{Tabulates};
 ghost use Rattle.aes.specs.Block as block;
 use inv_sbox::INV_SBOX;
 use sbox::SBOX;
@@ -233,7 +232,7 @@ fn rot_word(w: [u8; 4]) -> [u8; 4]
 // The first word of the round key after k.
 fn first_word(k: State, rcon: u8, table: &[u8; 256]) -> [u8; 4]
     requires { ⌜ Tabulates spec.subByte (now table) ⌝ }
-    ensures { λ r. ⌜ r ≡ firstWord k rcon ⌝ }
+    ensures { λ r. ⌜ r ≡ schedule.firstWord k rcon ⌝ }
 {
     let temp = add_word(sub_word(rot_word(k[3]), table), [rcon, 0, 0, 0]);
     add_word(k[0], temp)
@@ -241,7 +240,7 @@ fn first_word(k: State, rcon: u8, table: &[u8; 256]) -> [u8; 4]
 
 fn next_key(k: State, rcon: u8, table: &[u8; 256]) -> State
     requires { ⌜ Tabulates spec.subByte (now table) ⌝ }
-    ensures { λ r. ⌜ r ≡ nextKey k rcon ⌝ }
+    ensures { λ r. ⌜ r ≡ schedule.nextKey k rcon ⌝ }
 {
     let a = first_word(k, rcon, table);
     let b = add_word(k[1], a);

@@ -1,4 +1,4 @@
--- The key schedule by round keys: each is made of the one before and a round constant.
+-- That each round key is made of the one before and a round constant, and that round keys made so are the key schedule's.
 use mathlib.Core.Path.{_≡_, refl, sym, ap, ap₂, _∙_}
 use mathlib.Core.List.{List, [], _∷_}
 use Prim.Native.Nat.{ℕ, zero, suc, _+_, _-_, _*_, _/_, _%_, _<_, compare·suc-zero}
@@ -10,23 +10,10 @@ use lib.Seq.{getD-set-same, getD-set-other, ext-getD}
 use borrow.Author.Count.{below-more}
 use Rattle.octets.proofs.Bytes.{getD-listOf}
 use Rattle.fips197.specs.Field.{xtime}
-use Rattle.fips197.specs.State.{Word, State, column, load}
+use Rattle.fips197.specs.State.{Word, State, load}
 use Rattle.fips197.specs.Cipher.{subWord, addWord}
-use Rattle.fips197.specs.KeyExpansion.{rotWord, rcon, temp, word, roundKey, keyExpansion}
+use Rattle.fips197.specs.KeyExpansion.{rotWord, rcon, temp, word, roundKey, keyExpansion, firstWord, nextKey}
 use Rattle.fips197.proofs.Lists.{same}
-
--- the first word of the round key after k, whose round constant is rc
-abbrev pub firstWord : State → ℕ → Word
-firstWord k rc = addWord (column k 0) (addWord (subWord (rotWord (column k 3))) (rc ∷ 0 ∷ 0 ∷ 0 ∷ []))
-
--- the words after those of k, of which w is the first
-abbrev pub chained : Word → State → State
-chained w k =
-    w ∷ addWord (column k 1) w ∷ addWord (column k 2) (addWord (column k 1) w)
-    ∷ addWord (column k 3) (addWord (column k 2) (addWord (column k 1) w)) ∷ []
-
-unfoldable pub nextKey : State → ℕ → State
-nextKey k rc = chained (firstWord k rc) k
 
 temp-first : (r : ℕ) (w : Word) → temp (4 * r + 4) w ≡ addWord (subWord (rotWord w)) (rcon r ∷ 0 ∷ 0 ∷ 0 ∷ [])
 unfolding temp

@@ -7,11 +7,8 @@ use Rattle.octets.specs.Xor.{_⊕_}
 use Rattle.fips197.specs.Field.{_·_, xtime, inverse}
 use Rattle.fips197.specs.Cipher.{subByte}
 use Rattle.fips197.specs.InvCipher.{invSubByte}
+use Rattle.fips197.specs.Table.{Tabulates}
 use Rattle.fips197.proofs.Bytes.{bytes-equal, bytes-below}
-
--- A table that has f of a byte at the byte's place.
-pub record Tabulates (f : ℕ → ℕ) (table : List ℕ) : Type 0 where
-  pub at : (x : ℕ) → x < 256 → getD table x 0 ≡ f x
 
 unfoldable pub sbox : List ℕ
 sbox =

@@ -39,3 +39,17 @@ roundKey k r = four (λ c. word k (4 * r + c))
 -- The round keys 0 to 10 of a key of 16 bytes.
 unfoldable pub keyExpansion : List ℕ → List State
 keyExpansion key = listOf 11 (roundKey (load key))
+
+-- The first word of the round key after k, where rc is the first byte of its round constant.
+abbrev pub firstWord : State → ℕ → Word
+firstWord k rc = addWord (column k 0) (addWord (subWord (rotWord (column k 3))) (rc ∷ 0 ∷ 0 ∷ 0 ∷ []))
+
+-- The four words after those of k, of which w is the first.
+abbrev pub chained : Word → State → State
+chained w k =
+    w ∷ addWord (column k 1) w ∷ addWord (column k 2) (addWord (column k 1) w)
+    ∷ addWord (column k 3) (addWord (column k 2) (addWord (column k 1) w)) ∷ []
+
+-- The round key after k.
+unfoldable pub nextKey : State → ℕ → State
+nextKey k rc = chained (firstWord k rc) k

@@ -3,3 +3,4 @@ pub mod State
 pub mod Cipher
 pub mod KeyExpansion
 pub mod InvCipher
+pub mod Table

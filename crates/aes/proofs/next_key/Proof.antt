@@ -1,4 +1,4 @@
-use Rattle.fips197.proofs.KeyExpansion.{nextKey}
+use Rattle.fips197.specs.KeyExpansion.{nextKey}
 use borrow.Author.Needs.{needs}
 use Rattle.aes.proofs.next_key.Statement.{statement}
 use Rattle.aes.proofs.next_key.Tie as tie
