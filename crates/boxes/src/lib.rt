@@ -12,7 +12,7 @@ pub fn bad_frame(least: usize, kind: [u8; 4], slice: &[u8]) -> bool
     if slice.len() < least {
         return true;
     }
-    if octets::be32(slice, 0) as usize != slice.len() {
+    if numbers::be32(slice, 0) as usize != slice.len() {
         return true;
     }
     // Such a slice has no type.
@@ -33,15 +33,15 @@ pub fn version(slice: &[u8]) -> u8
 pub fn flags(slice: &[u8]) -> u32
     ensures { λ r. ⌜ r ≡ spec.flags (now (slice .entry)) ⌝ }
 {
-    octets::be24(slice, 9)
+    numbers::be24(slice, 9)
 }
 
 // The first bytes of a full box; of the flags the lowest 24 bits.
 pub fn header(size: u32, kind: [u8; 4], version: u8, flags: u32) -> [u8; HEADER]
     ensures { λ r. ⌜ r ≡ spec.header size kind version flags ⌝ }
 {
-    let s = octets::bytes32(size);
-    let f = octets::bytes32(flags);
+    let s = numbers::bytes32(size);
+    let f = numbers::bytes32(flags);
     [
         s[0],
         s[1],

@@ -38,7 +38,7 @@ pub fn start(bytes: &[u8]) -> Started
             issuer: Issuer {
                 size: IvSize::Eight,
                 first: [0; 8],
-                counter: octets::be64(bytes, 0),
+                counter: numbers::be64(bytes, 0),
                 used_up: false,
             },
         };
@@ -49,7 +49,7 @@ pub fn start(bytes: &[u8]) -> Started
             issuer: Issuer {
                 size: IvSize::Sixteen,
                 first: first_eight(bytes),
-                counter: octets::be64(bytes, 8),
+                counter: numbers::be64(bytes, 8),
                 used_up: false,
             },
         };
@@ -89,8 +89,8 @@ fn vector(size: IvSize, first: [u8; 8], counter: u64) -> StartVector
     ensures { λ r. ⌜ r .0 ≡ spec.vector size first counter ⌝ }
 {
     match size {
-        IvSize::Eight => StartVector::new(joined(octets::bytes64(counter), [0; 8])),
-        IvSize::Sixteen => StartVector::new(joined(first, octets::bytes64(counter))),
+        IvSize::Eight => StartVector::new(joined(numbers::bytes64(counter), [0; 8])),
+        IvSize::Sixteen => StartVector::new(joined(first, numbers::bytes64(counter))),
     }
 }
 

@@ -25,7 +25,7 @@ fn deciphered(keys: RoundKeys, bytes: [u8; 16]) -> [u8; 16]
 fn counter_after(b: [u8; 16], n: u64) -> [u8; 16]
     ensures { λ r. ⌜ r ≡ spec.counterAt b n ⌝ }
 {
-    let c = octets::bytes64(std::num::wrapping_add_u64(octets::be64(&b, 8), n));
+    let c = numbers::bytes64(std::num::wrapping_add_u64(numbers::be64(&b, 8), n));
     [
         b[0],
         b[1],

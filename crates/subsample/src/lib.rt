@@ -35,7 +35,7 @@ fn entry_count(p: Parameters, auxiliary: &[u8]) -> usize
     ensures { λ r. ⌜ r ≡ spec.entryCount p (now (auxiliary .entry)) ⌝ }
 {
     if written(p, auxiliary) {
-        octets::be16(auxiliary, wide(p.iv_size)) as usize
+        numbers::be16(auxiliary, wide(p.iv_size)) as usize
     } else {
         0
     }
@@ -52,7 +52,7 @@ fn bad_size(p: Parameters, auxiliary: &[u8]) -> bool
     if auxiliary.len() < iv + 2 {
         return true;
     }
-    let count = octets::be16(auxiliary, iv) as usize;
+    let count = numbers::be16(auxiliary, iv) as usize;
     if count == 0 {
         return true;
     }
@@ -67,7 +67,7 @@ fn clear_lengths(first: usize, count: usize, auxiliary: &[u8]) -> [u16; Subsampl
     let mut out = [0u16; SubsampleMap::LIMIT];
     let mut i = 0;
     while i < count {
-        out[i] = octets::be16(auxiliary, first + 6 * i);
+        out[i] = numbers::be16(auxiliary, first + 6 * i);
         i += 1;
     }
     out
@@ -80,7 +80,7 @@ fn protected_lengths(first: usize, count: usize, auxiliary: &[u8]) -> [u32; Subs
     let mut out = [0u32; SubsampleMap::LIMIT];
     let mut i = 0;
     while i < count {
-        out[i] = octets::be32(auxiliary, first + 6 * i);
+        out[i] = numbers::be32(auxiliary, first + 6 * i);
         i += 1;
     }
     out

@@ -16,8 +16,8 @@ fn print_number(n: usize) {
 }
 
 fn print_bytes(b: [u8; 16]) {
-    io::print_hex(STDOUT_FILENO, octets::be64(&b, 0), 16);
-    io::print_hex(STDOUT_FILENO, octets::be64(&b, 8), 16);
+    io::print_hex(STDOUT_FILENO, numbers::be64(&b, 0), 16);
+    io::print_hex(STDOUT_FILENO, numbers::be64(&b, 8), 16);
 }
 
 fn print_byte(b: u8) {
@@ -33,7 +33,7 @@ fn print_all(s: &[u8]) {
 }
 
 fn print_word(w: [u8; 4]) {
-    io::print_hex(STDOUT_FILENO, octets::be32(&w, 0) as u64, 8);
+    io::print_hex(STDOUT_FILENO, numbers::be32(&w, 0) as u64, 8);
 }
 
 fn key_of(bytes: &[u8]) -> RoundKeys {
@@ -301,9 +301,9 @@ fn cbc1_samples(track_box: &[u8]) {
 
 // The data of `count` entries (0, 1), in cbcs.
 fn unit_entries(count: u16, out: &mut [u8]) {
-    octets::put16(count, out, 0);
+    numbers::put16(count, out, 0);
     for i in 0..count as usize {
-        octets::put32(1, out, 6 * i + 4);
+        numbers::put32(1, out, 6 * i + 4);
     }
 }
 

@@ -20,10 +20,10 @@ pub fn read_entry(volume: &[u8], at: usize) -> Entry
         };
     }
     Entry {
-        offset: octets::be64(volume, at),
-        length: octets::be64(volume, at + 8),
-        day: octets::be32(volume, at + 16),
-        term: octets::be32(volume, at + 20),
+        offset: numbers::be64(volume, at),
+        length: numbers::be64(volume, at + 8),
+        day: numbers::be32(volume, at + 16),
+        term: numbers::be32(volume, at + 20),
     }
 }
 
@@ -33,10 +33,10 @@ pub fn read_trailer(volume: &[u8]) -> Trailer
 {
     let at = volume.len() - octets::least(volume.len(), Trailer::SIZE);
     Trailer {
-        offset: octets::be64(volume, at),
-        count: octets::be64(volume, at + 8),
-        latest: octets::be32(volume, at + 16),
-        last: octets::be32(volume, at + 20),
+        offset: numbers::be64(volume, at),
+        count: numbers::be64(volume, at + 8),
+        latest: numbers::be32(volume, at + 16),
+        last: numbers::be32(volume, at + 20),
     }
 }
 

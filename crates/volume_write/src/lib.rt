@@ -27,10 +27,10 @@ fn store_fields(a: u64, b: u64, c: u32, d: u32, out: &mut [u8], at: usize)
     if out.len() - Entry::SIZE < at {
         return;
     }
-    octets::put64(a, out, at);
-    octets::put64(b, out, at + 8);
-    octets::put32(c, out, at + 16);
-    octets::put32(d, out, at + 20);
+    numbers::put64(a, out, at);
+    numbers::put64(b, out, at + 8);
+    numbers::put32(c, out, at + 16);
+    numbers::put32(d, out, at + 20);
 }
 
 // Writes the empty volume: 53. Only its bytes change, and none if refused.

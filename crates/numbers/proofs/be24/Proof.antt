@@ -1,8 +1,8 @@
 use Rattle.octets.proofs.Bytes.{number-below}
 use borrow.Author.Needs.{needs}
 use native.Mathlib.Omega.{arith}
-use Rattle.octets.proofs.be24.Statement.{statement}
-use Rattle.octets.proofs.be24.Tie as tie
+use Rattle.numbers.proofs.be24.Statement.{statement}
+use Rattle.numbers.proofs.be24.Tie as tie
 
 cast-result : tie.Need-cast-result
 cast-result c =
