@@ -8,7 +8,8 @@ use Rattle.octets.specs.Bytes.{same, number, filled}
 use Rattle.boxes.specs.Box as frame
 use Rattle.track_spec.specs.Track.{known, allowedProtected, allowedFields, allowed, fieldsFrom, fields, badHead, badFields, readRows, readBox}
 use Rattle.octets.specs.Ascii.{ascii}
-use Rattle.sheet.specs.Sheet.{decimal, hex, refused, patternLine, constantLine, sheet, told, lines}
+use Rattle.text.specs.Text.{decimal, hex}
+use Rattle.sheet.specs.Sheet.{refused, patternLine, constantLine, sheet, told, lines}
 
 -- 00 to 0f
 kid : List ℕ

@@ -9,12 +9,13 @@ use lib.ListN.{length, getD, take, drop, length-append, length-drop}
 use lib.Seq.{length-take-le, drop-drop, take-at, drop-at}
 use borrow.Author.Tests.{lt-ltb, le-ltb}
 use Rattle.octets.specs.Bytes.{placed}
-use Rattle.octets.proofs.Fill.{take-next}
 use Rattle.octets.proofs.Bytes.{placed-fits}
 use Rattle.octets.specs.Ascii.{ascii}
 use Rattle.track_spec.specs.Track.{hasConstant}
 use Rattle.track_spec.specs.declared.Parameters.{Parameters}
-use Rattle.sheet.specs.Sheet.{digit, decimal, hex, line, patternLine, constantLine, sheet, Put}
+use Rattle.text.specs.Text.{digit, decimal, hex}
+use Rattle.text.proofs.Pairs.{hex-length}
+use Rattle.sheet.specs.Sheet.{line, patternLine, constantLine, sheet, Put}
 
 -- ---- Numbers and bytes.
 
@@ -38,21 +39,6 @@ at-most k false a b h l = l
 decimal-length : (n : ℕ) → length (decimal n) ≤ 3
 unfolding decimal
 decimal-length n = at-most 3 (ltb n 10) _ _ (omega arith) (at-most 3 (ltb n 100) _ _ (omega arith) (omega arith))
-
-hex-append : (a b : List ℕ) → hex (a ++ b) ≡ hex a ++ hex b
-unfolding hex
-hex-append [] b = refl
-hex-append (x ∷ a) b = rw (hex-append a b)
-
-pub hex-next : (s : List ℕ) (i : ℕ) → i < length s
-    → hex (take (i + 1) s) ≡ hex (take i s) ++ (digit (getD s i 0 / 16) ∷ digit (getD s i 0 % 16) ∷ [])
-unfolding hex
-hex-next s i l = ap hex (take-next s i l) ∙ hex-append (take i s) (getD s i 0 ∷ [])
-
-hex-length : (s : List ℕ) → length (hex s) ≡ 2 * length s
-unfolding hex
-hex-length [] = refl
-hex-length (b ∷ bs) = omega (arith, hex-length bs)
 
 -- ---- Lines.
 

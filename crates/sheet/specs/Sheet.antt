@@ -6,29 +6,10 @@ use Prim.Native.Nat.{ℕ, _+_, _/_, _%_, _≤_}
 use lib.Dec.{eqb, ltb}
 use lib.ListN.{length, getD, take, drop}
 use Rattle.octets.specs.Ascii.{ascii}
+use Rattle.text.specs.Text.{decimal, hex}
 use Rattle.track_spec.specs.Track.{known, hasConstant, readBox}
 use Rattle.track_spec.specs.declared.Parameters.{Parameters}
 use Rattle.track_spec.specs.declared.BoxRead.{BoxRead}
-
--- ---- Numbers and bytes as text.
-
--- The digit of a number below 16.
-abbrev pub digit : ℕ → ℕ
-digit n = getD (ascii "0123456789abcdef") n 0
-
--- A number below 1000 in decimal, without leading zeros.
-unfoldable pub decimal : ℕ → List ℕ
-decimal n =
-    cond (ltb n 10) (digit n ∷ [])
-    (cond (ltb n 100) (digit (n / 10) ∷ digit (n % 10) ∷ [])
-    (digit (n / 100) ∷ digit (n / 10 % 10) ∷ digit (n % 10) ∷ []))
-
--- Two digits for each byte.
-unfoldable pub hex : List ℕ → List ℕ
-hex [] = []
-hex (b ∷ bs) = digit (b / 16) ∷ digit (b % 16) ∷ hex bs
-
--- ---- The lines.
 
 abbrev pub line : List ℕ → List ℕ → List ℕ
 line name value = name ++ (value ++ ascii "\n")

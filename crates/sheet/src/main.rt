@@ -1,9 +1,11 @@
 // A scheme code and then a box on standard input, told in lines (document 01, "The sheet program").
 ghost use mathlib.Core.Path.{_≡_};
 ghost use mathlib.Core.List.{_++_};
-ghost use Prim.Native.Nat.{_+_, _≤_, _<_};
+ghost use Prim.Native.Nat.{_+_, _≤_};
 ghost use lib.ListN.{length, drop};
+ghost use Rattle.text.specs.Text.{decimal};
 ghost use Rattle.sheet.specs.Sheet as spec;
+use libc::STDERR_FILENO;
 use libc::STDIN_FILENO;
 use libc::STDOUT_FILENO;
 use track::Parameters;
@@ -11,29 +13,6 @@ use track::refusal;
 
 // The longest input that is not refused for its length.
 const MAX_INPUT: usize = 4096;
-
-// A digit, decimal or hexadecimal.
-fn digit(n: u8) -> u8
-    requires { ⌜ n < 16 ⌝ }
-    ensures { λ r. ⌜ r ≡ spec.digit n ⌝ }
-{
-    let digits = b"0123456789abcdef";
-    digits[n as usize]
-}
-
-// Two digits for each byte.
-fn hex(bytes: [u8; 16]) -> [u8; 32]
-    ensures { λ r. ⌜ r ≡ spec.hex bytes ⌝ }
-{
-    let mut text = [0u8; 32];
-    let mut i = 0;
-    while i < 16 {
-        text[2 * i] = digit(bytes[i] / 16);
-        text[2 * i + 1] = digit(bytes[i] % 16);
-        i += 1;
-    }
-    text
-}
 
 // Writes a text from a place on, and answers where it ends. The functions below do so with texts of their own. The output
 // has 160 bytes; a sheet has at most 140.
@@ -47,17 +26,21 @@ fn put(text: &[u8], out: &mut [u8; 160], at: usize) -> usize
 
 // A number, without leading zeros.
 fn put_decimal(n: u8, out: &mut [u8; 160], at: usize) -> usize
-    requires { ⌜ at + length (spec.decimal n) ≤ 160 ⌝ }
-    ensures { λ r. ⌜ spec.Put (now (out .entry)) (now (out .exit)) at (spec.decimal n) r ⌝ }
+    requires { ⌜ at + length (decimal n) ≤ 160 ⌝ }
+    ensures { λ r. ⌜ spec.Put (now (out .entry)) (now (out .exit)) at (decimal n) r ⌝ }
 {
     if n < 10 {
-        return put(&[digit(n)], out, at);
+        return put(&[text::digit(n)], out, at);
     }
     if n < 100 {
-        return put(&[digit(n / 10), digit(n % 10)], out, at);
+        return put(&[text::digit(n / 10), text::digit(n % 10)], out, at);
     }
     put(
-        &[digit(n / 100), digit(n / 10 % 10), digit(n % 10)],
+        &[
+            text::digit(n / 100),
+            text::digit(n / 10 % 10),
+            text::digit(n % 10),
+        ],
         out,
         at,
     )
@@ -74,8 +57,8 @@ fn text_line(name: &[u8], value: &[u8], out: &mut [u8; 160], at: usize) -> usize
 }
 
 fn number_line(name: &[u8], n: u8, out: &mut [u8; 160], at: usize) -> usize
-    requires { ⌜ at + length (spec.line (now name) (spec.decimal n)) ≤ 160 ⌝ }
-    ensures { λ r. ⌜ spec.Put (now (out .entry)) (now (out .exit)) at (spec.line (now (name .entry)) (spec.decimal n)) r ⌝ }
+    requires { ⌜ at + length (spec.line (now name) (decimal n)) ≤ 160 ⌝ }
+    ensures { λ r. ⌜ spec.Put (now (out .entry)) (now (out .exit)) at (spec.line (now (name .entry)) (decimal n)) r ⌝ }
 {
     let at = put(name, out, at);
     let at = put_decimal(n, out, at);
@@ -100,7 +83,7 @@ fn constant_line(has: bool, constant: [u8; 16], out: &mut [u8; 160], at: usize) 
     ensures { λ r. ⌜ spec.Put (now (out .entry)) (now (out .exit)) at (spec.constantLine has constant) r ⌝ }
 {
     if has {
-        text_line(b"constant ", &hex(constant), out, at)
+        text_line(b"constant ", &text::hex(constant), out, at)
     } else {
         text_line(b"constant ", b"none", out, at)
     }
@@ -118,7 +101,7 @@ fn sheet(p: Parameters, out: &mut [u8; 160]) -> usize
     let at = pattern_line(p.crypt, p.skip, out, at);
     let at = number_line(b"protected ", p.protected, out, at);
     let at = number_line(b"iv ", p.iv_size, out, at);
-    let at = text_line(b"kid ", &hex(kid.bytes()), out, at);
+    let at = text_line(b"kid ", &text::hex(kid.bytes()), out, at);
     let has = track::has_constant(p.protected, p.iv_size);
     constant_line(has, constant.bytes(), out, at)
 }
@@ -159,5 +142,7 @@ fn main() {
     let n = io::read_full(STDIN_FILENO, &mut input);
     let mut out = [0u8; 160];
     let r = render(&input[..n], &mut out);
-    io::write_all(STDOUT_FILENO, &out[..r]);
+    if !io::write_all(STDOUT_FILENO, &out[..r]) {
+        io::write_all(STDERR_FILENO, b"sheet: cannot write to standard output\n");
+    }
 }

@@ -21,4 +21,4 @@ pub main-spec : {M : Type 1} → statement M
 main-spec =
     tie.close
     (tie.spec (search needs) (search needs) (search needs) (search needs) (search needs) array-share-prefix-out
-    slice-aggregate-write-all (search needs) (search needs))
+    slice-aggregate-write-all (search needs) (search needs) (search needs) (search needs) (search needs))

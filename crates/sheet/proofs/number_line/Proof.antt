@@ -1,4 +1,4 @@
-use Rattle.sheet.specs.Sheet.{decimal}
+use Rattle.text.specs.Text.{decimal}
 use Rattle.sheet.proofs.Texts.{line-length, put-then}
 use borrow.Author.Needs.{needs}
 use native.Mathlib.Omega.{arith}

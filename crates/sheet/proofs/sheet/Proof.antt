@@ -2,6 +2,7 @@ use mathlib.Core.Path.{_≡_, sym, ap, _∙_}
 use Prim.Native.Nat.{_≤_}
 use lib.ListN.{length}
 use Rattle.octets.specs.Ascii.{ascii}
+use Rattle.text.specs.Text.{hex}
 use Rattle.sheet.specs.Sheet as spec
 use Rattle.sheet.proofs.Texts.{line-length, constant-bound, number-fits, number-ends, pattern-fits, pattern-ends, seven-lines}
 use borrow.Author.Needs.{needs}
@@ -104,7 +105,7 @@ returns c =
     let f = protected i in
     let p = pattern f in
     let v = version p in
-    seven-lines _ (d .hex .ensures ∙ ap spec.hex (d .before .bytes .ensures)) (b .before .has-constant .ensures) (b .bytes2 .ensures)
+    seven-lines _ (d .hex .ensures ∙ ap hex (d .before .bytes .ensures)) (b .before .has-constant .ensures) (b .bytes2 .ensures)
     (scheme v .text-line .ensures)
     (v .number-line .ensures)
     (p .pattern-line .ensures)
