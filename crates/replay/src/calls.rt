@@ -1,19 +1,16 @@
-// The kinds of lines, each answered by a function of its own.
-use crate::auxiliary;
+// The kinds of lines: a row for each, and the function that answers it.
+ghost use Prim.Native.Nat.{_≤_};
+ghost use lib.ListN.{length};
 use crate::boxes;
 use crate::issuers;
+use crate::line;
 use crate::output;
-use crate::output::Buffer;
 use crate::samples;
 use crate::streams;
 use crate::volumes;
-use crate::words;
+use modes::Direction;
 
-// As many bytes as a line can hold.
-pub type Bytes = [u8; 131072];
-
-// What the first word of a line asks for.
-enum Kind {
+pub enum Kind {
     Box,
     Write,
     Auxiliary,
@@ -22,85 +19,87 @@ enum Kind {
     Stream,
     Record,
     Issuer,
-    Empty,
-    Check,
-    HandOut,
-    Add,
+    EmptyVolume,
+    CheckVolume,
+    VolumeRecord,
+    AddRecord,
     Dispose,
     Malformed,
 }
 
-fn kind_of(word: &[u8]) -> Kind {
-    if octets::same(word, b"box") {
+// A list of words at the end, of a kind that no word is of.
+const NONE: u8 = b'-';
+
+// The rows: a line's name and the signature of the words behind it.
+pub(crate) fn kind_of(line: &[u8]) -> Kind {
+    if line::fits(line, b"box", b"bb", NONE) {
         return Kind::Box;
     }
-    if octets::same(word, b"write") {
+    if line::fits(line, b"write", b"fooooossr", NONE) {
         return Kind::Write;
     }
-    if octets::same(word, b"aux") {
+    if line::fits(line, b"aux", b"bbnb", NONE) {
         return Kind::Auxiliary;
     }
-    if octets::same(word, b"lock") {
+    if line::fits(line, b"lock", b"bbbbb", NONE) {
         return Kind::Lock;
     }
-    if octets::same(word, b"open") {
+    if line::fits(line, b"open", b"bbbbb", NONE) {
         return Kind::Open;
     }
-    if octets::same(word, b"stream") {
+    if line::fits(line, b"stream", b"dbbbbn", b'c') {
         return Kind::Stream;
     }
-    if octets::same(word, b"record") {
+    if line::fits(line, b"record", b"dfopoossnnensssn", b'c') {
         return Kind::Record;
     }
-    vault_kind(word)
-}
-
-// Of start vectors and volumes, or malformed.
-fn vault_kind(word: &[u8]) -> Kind {
-    if octets::same(word, b"issuer") {
+    if line::fits(line, b"issuer", b"b", b'n') {
         return Kind::Issuer;
     }
-    if octets::same(word, b"vempty") {
-        return Kind::Empty;
+    if line::fits(line, b"vempty", b"r", NONE) {
+        return Kind::EmptyVolume;
     }
-    if octets::same(word, b"vcheck") {
-        return Kind::Check;
+    if line::fits(line, b"vcheck", b"b", NONE) {
+        return Kind::CheckVolume;
     }
-    if octets::same(word, b"vrecord") {
-        return Kind::HandOut;
+    if line::fits(line, b"vrecord", b"bn", NONE) {
+        return Kind::VolumeRecord;
     }
-    if octets::same(word, b"vadd") {
-        return Kind::Add;
+    if line::fits(line, b"vadd", b"bbwwr", NONE) {
+        return Kind::AddRecord;
     }
-    if octets::same(word, b"vdispose") {
+    if line::fits(line, b"vdispose", b"bnw", NONE) {
         return Kind::Dispose;
     }
     Kind::Malformed
 }
 
-// Answers a line. Its byte strings go to `bytes`, one after the other, and what a call writes goes to `lent`.
+// Answers a line. The bytes of its words go to `bytes`, and what a call writes goes to `lent`.
 pub(crate) fn answer(
+    kind: Kind,
     line: &[u8],
-    bytes: &mut Bytes,
-    lent: &mut Bytes,
-    out: &mut Buffer,
+    bytes: &mut [u8],
+    lent: &mut [u8],
+    out: &mut [u8],
     at: usize,
-) -> usize {
-    let kind = kind_of(words::word(line, 0));
+) -> usize
+    requires { ⌜ 65536 ≤ length (now lent) ⌝ }
+{
+    let ends = line::decode(line, bytes);
     match kind {
-        Kind::Box => boxes::read(line, bytes, out, at),
-        Kind::Write => boxes::write(line, lent, out, at),
-        Kind::Auxiliary => auxiliary::read(line, bytes, out, at),
-        Kind::Lock => samples::lock(line, bytes, lent, out, at),
-        Kind::Open => samples::open(line, bytes, lent, out, at),
-        Kind::Stream => streams::declared(line, bytes, lent, out, at),
-        Kind::Record => streams::given(line, bytes, lent, out, at),
-        Kind::Issuer => issuers::grants(line, bytes, out, at),
-        Kind::Empty => volumes::empty(line, lent, out, at),
-        Kind::Check => volumes::check(line, bytes, out, at),
-        Kind::HandOut => volumes::record(line, bytes, out, at),
-        Kind::Add => volumes::add(line, bytes, lent, out, at),
-        Kind::Dispose => volumes::dispose(line, bytes, out, at),
-        Kind::Malformed => output::malformed(out, at),
+        Kind::Box => boxes::read(bytes, ends, out, at),
+        Kind::Write => boxes::write(line, bytes, ends, lent, out, at),
+        Kind::Auxiliary => samples::auxiliary(line, bytes, ends, out, at),
+        Kind::Lock => samples::whole(Direction::Lock, line, bytes, ends, lent, out, at),
+        Kind::Open => samples::whole(Direction::Open, line, bytes, ends, lent, out, at),
+        Kind::Stream => streams::started(line, bytes, ends, lent, out, at),
+        Kind::Record => streams::given(line, bytes, ends, lent, out, at),
+        Kind::Issuer => issuers::grants(line, bytes, ends, out, at),
+        Kind::EmptyVolume => volumes::empty(line, lent, out, at),
+        Kind::CheckVolume => volumes::check(bytes, ends, out, at),
+        Kind::VolumeRecord => volumes::record(line, bytes, ends, out, at),
+        Kind::AddRecord => volumes::add(line, bytes, ends, lent, out, at),
+        Kind::Dispose => volumes::dispose(line, bytes, ends, out, at),
+        Kind::Malformed => text::put(b"malformed", out, at),
     }
 }

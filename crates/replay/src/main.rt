@@ -1,25 +1,32 @@
-// Calls of the library, one a line on standard input, each answered by a line on standard output.
-mod auxiliary;
+// Calls of the library, one a line on standard input, each answered by a line on standard output. Standard error has what failed,
+// and at the end how many lines were malformed, if any were.
 mod boxes;
 mod calls;
 mod issuers;
+mod line;
 mod output;
-mod records;
-mod replies;
 mod samples;
 mod streams;
-mod values;
 mod volumes;
-mod words;
 
-use calls::Bytes;
+use calls::Kind;
+use libc::STDERR_FILENO;
 use libc::STDIN_FILENO;
 use output::Buffer;
 
-// The longest line, without its newline.
+// The longest line, without its newline, and the most bytes that it holds.
 const LONGEST: usize = 262144;
 
 type Line = [u8; LONGEST];
+
+type Bytes = [u8; 131072];
+
+// How much is held of a line, where the text ends that is still to be written, and how many lines were malformed.
+struct State {
+    held: usize,
+    end: usize,
+    malformed: u64,
+}
 
 // Adds a piece to what is held of a line; answers how much is held. A line that is too long counts as one byte over the longest.
 fn hold(piece: &[u8], line: &mut Line, held: usize) -> usize {
@@ -33,55 +40,110 @@ fn hold(piece: &[u8], line: &mut Line, held: usize) -> usize {
     held + piece.len()
 }
 
+fn say(text: &[u8]) {
+    io::write_all(STDERR_FILENO, b"replay: ");
+    io::write_all(STDERR_FILENO, text);
+    io::write_all(STDERR_FILENO, b"\n");
+}
+
+// What the line held asks for.
+fn kind_of(line: &[u8], held: usize) -> Kind {
+    if line.len() < held {
+        return Kind::Malformed;
+    }
+    calls::kind_of(&line[0..held])
+}
+
+fn count(kind: Kind, before: u64) -> u64 {
+    match kind {
+        Kind::Malformed => {
+            if before < u64::MAX {
+                before + 1
+            } else {
+                before
+            }
+        }
+        _ => before,
+    }
+}
+
 // Answers the line held; an empty line by an empty line.
 fn answer(
     line: &[u8],
-    held: usize,
+    before: State,
     bytes: &mut Bytes,
     lent: &mut Bytes,
     out: &mut Buffer,
-    at: usize,
-) -> usize {
-    let end = if held == 0 {
-        at
-    } else if line.len() < held {
-        output::malformed(out, at)
-    } else {
-        calls::answer(&line[0..held], bytes, lent, out, at)
-    };
-    output::byte(b'\n', out, end)
+) -> State {
+    let at = output::make_room(out, before.end);
+    if before.held == 0 {
+        return State {
+            held: 0,
+            end: output::byte(b'\n', out, at),
+            malformed: before.malformed,
+        };
+    }
+    let kind = kind_of(line, before.held);
+    let text = line::part(line, 0, before.held);
+    let end = calls::answer(kind, text, bytes, lent, out, at);
+    State {
+        held: 0,
+        end: output::byte(b'\n', out, end),
+        malformed: count(kind, before.malformed),
+    }
 }
 
-// Answers the lines that end in a piece of the input, and holds what follows them; answers how much is held.
+// Answers the lines that end in a piece of the input, and holds what follows them.
 fn lines(
     piece: &[u8],
-    before: usize,
+    before: State,
     line: &mut Line,
     bytes: &mut Bytes,
     lent: &mut Bytes,
     out: &mut Buffer,
-) -> usize {
-    let mut held = before;
-    let mut at = 0;
+) -> State {
+    let mut state = before;
     let mut start = 0;
     while start < piece.len() {
-        let end = words::find(piece, start, b'\n');
-        held = hold(&piece[start..end], line, held);
+        let found = text::word_at(piece, start, b'\n');
+        let from = found.start;
+        let end = found.end;
+        let held = hold(&piece[from..end], line, state.held);
+        state.held = held;
         if end < piece.len() {
-            at = answer(line, held, bytes, lent, out, at);
-            held = 0;
+            let next = answer(line, state, bytes, lent, out);
+            state = next;
         }
         start = end + 1;
     }
-    output::flush(out, at);
-    held
+    state.end = output::flush(out, state.end);
+    state
 }
 
 // Answers a last line that has no newline.
-fn last(held: usize, line: &Line, bytes: &mut Bytes, lent: &mut Bytes, out: &mut Buffer) {
-    if 0 < held {
-        let at = answer(line, held, bytes, lent, out, 0);
-        output::flush(out, at);
+fn last(state: State, line: &Line, bytes: &mut Bytes, lent: &mut Bytes, out: &mut Buffer) -> State {
+    if state.held == 0 {
+        return state;
+    }
+    let next = answer(line, state, bytes, lent, out);
+    State {
+        held: 0,
+        end: output::flush(out, next.end),
+        malformed: next.malformed,
+    }
+}
+
+// Says what failed, or how many lines were malformed.
+fn report(state: State, read: bool) {
+    if !read {
+        say(b"cannot read standard input");
+    }
+    if state.end == output::FAILED {
+        say(b"cannot write to standard output");
+    } else if 0 < state.malformed {
+        io::write_all(STDERR_FILENO, b"replay: malformed lines: ");
+        io::print_decimal(STDERR_FILENO, state.malformed);
+        io::write_all(STDERR_FILENO, b"\n");
     }
 }
 
@@ -90,23 +152,37 @@ fn main() {
     let mut line = [0u8; LONGEST];
     let mut bytes = [0u8; 131072];
     let mut lent = [0u8; 131072];
-    let mut out = [0u8; 65536];
-    let mut held = 0;
+    let mut out = [0u8; 1048576];
+    let mut state = State {
+        held: 0,
+        end: 0,
+        malformed: 0,
+    };
+    let mut read = true;
     // Nothing says that the input ends, so the loop has an end of its own, which no input reaches.
     for _ in 0..u64::MAX {
         let got = libc::read(STDIN_FILENO, &mut input);
+        if got < 0 {
+            read = false;
+            break;
+        }
         let count = io::count(got, &input);
         if count == 0 {
             break;
         }
-        held = lines(
+        let next = lines(
             &input[..count],
-            held,
+            state,
             &mut line,
             &mut bytes,
             &mut lent,
             &mut out,
         );
+        state = next;
+        if state.end == output::FAILED {
+            break;
+        }
     }
-    last(held, &line, &mut bytes, &mut lent, &mut out);
+    let done = last(state, &line, &mut bytes, &mut lent, &mut out);
+    report(done, read);
 }

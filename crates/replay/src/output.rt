@@ -1,85 +1,59 @@
-// The words of the answers, gathered in a buffer. A function here is told where the text in the buffer ends, and answers where
-// it ends after the call.
-ghost use Prim.Native.Nat.{_<_};
+// The text of the answers, gathered in a buffer. A function here is told where the text ends, and answers where it ends after the
+// call. What does not fit is left out, so nothing is put behind a place past the buffer.
 use libc::STDOUT_FILENO;
 
-const ROOM: usize = 65536;
+// Room for two of the longest answers or replies.
+const SIZE: usize = 1048576;
 
-// Text that is still to be written.
-pub type Buffer = [u8; ROOM];
+pub type Buffer = [u8; SIZE];
 
-// Writes the text out.
-pub(crate) fn flush(out: &[u8], at: usize) {
-    if at <= out.len() {
-        io::write_all(STDOUT_FILENO, &out[0..at]);
+// A place past the buffer: the text could not be written.
+pub const FAILED: usize = 18446744073709551615;
+
+// Writes the text out; answers where the next begins.
+pub(crate) fn flush(out: &[u8], at: usize) -> usize {
+    if out.len() < at {
+        return FAILED;
     }
+    if io::write_all(STDOUT_FILENO, &out[0..at]) {
+        return 0;
+    }
+    FAILED
 }
 
-// A byte; a full buffer is written out first.
-pub(crate) fn byte(b: u8, out: &mut Buffer, at: usize) -> usize {
-    if at < ROOM {
-        out[at] = b;
-        return at + 1;
+// Writes the text out if half of the buffer is full.
+pub(crate) fn make_room(out: &[u8], at: usize) -> usize {
+    if SIZE / 2 < at {
+        return flush(out, at);
     }
-    flush(out, ROOM);
-    out[0] = b;
-    1
+    at
 }
 
-pub(crate) fn text(s: &[u8], out: &mut Buffer, at: usize) -> usize {
-    let mut end = at;
-    let mut i = 0;
-    while i < s.len() {
-        end = byte(s[i], out, end);
-        i += 1;
-    }
-    end
+pub(crate) fn byte(b: u8, out: &mut [u8], at: usize) -> usize {
+    text::put(&[b], out, at)
 }
 
 // A number in decimal.
-pub(crate) fn number(n: u64, out: &mut Buffer, at: usize) -> usize {
+pub(crate) fn number(n: u64, out: &mut [u8], at: usize) -> usize {
     let mut digits = [0u8; 20];
     let count = io::decimal(n, &mut digits);
-    text(&digits[..count], out, at)
+    text::put(&digits[..count], out, at)
 }
 
 // A number, and a byte after it.
-pub(crate) fn number_then(n: u64, b: u8, out: &mut Buffer, at: usize) -> usize {
+pub(crate) fn number_then(n: u64, b: u8, out: &mut [u8], at: usize) -> usize {
     let end = number(n, out, at);
     byte(b, out, end)
 }
 
-// Bytes in hex, `-` for none.
-pub(crate) fn bytes(s: &[u8], out: &mut Buffer, at: usize) -> usize {
-    if s.len() == 0 {
-        return byte(b'-', out, at);
-    }
-    let mut end = at;
-    let mut i = 0;
-    while i < s.len() {
-        end = pair(s[i], out, end);
-        i += 1;
-    }
-    end
-}
-
-// Bytes in hex, and a byte after them.
-pub(crate) fn bytes_then(s: &[u8], b: u8, out: &mut Buffer, at: usize) -> usize {
-    let end = bytes(s, out, at);
+// Bytes, and a byte after them.
+pub(crate) fn bytes_then(s: &[u8], b: u8, out: &mut [u8], at: usize) -> usize {
+    let end = text::put_hex(s, out, at);
     byte(b, out, end)
 }
 
-pub(crate) fn malformed(out: &mut Buffer, at: usize) -> usize {
-    text(b"malformed", out, at)
-}
-
-fn pair(b: u8, out: &mut Buffer, at: usize) -> usize {
-    let end = byte(digit(b / 16), out, at);
-    byte(digit(b % 16), out, end)
-}
-
-fn digit(n: u8) -> u8
-    requires { ⌜ n < 16 ⌝ }
-{
-    if n < 10 { b'0' + n } else { b'a' + (n - 10) }
+// `NUMBER BYTES`.
+pub(crate) fn answer(answer: u8, s: &[u8], out: &mut [u8], at: usize) -> usize {
+    let at = number_then(answer as u64, b' ', out, at);
+    text::put_hex(s, out, at)
 }

@@ -1,90 +1,259 @@
 // The lines `stream` and `record`: samples in pieces.
 ghost use Prim.Native.Nat.{_≤_};
 ghost use lib.ListN.{length};
-use crate::calls::Bytes;
+use crate::boxes;
+use crate::line;
+use crate::line::Ends;
 use crate::output;
-use crate::output::Buffer;
-use crate::records::Record;
-use crate::records::Way;
-use crate::replies;
-use crate::values::Number;
-use crate::values::Places;
-use crate::words;
+use crate::samples;
+use aes::Key;
 use modes::Direction;
+use stream::Declared;
+use stream::Progress;
 use stream::Started;
+use stream::Stream;
+use subsample::SubsampleMap;
+use track::Parameters;
 
-// `stream DIRECTION CODE BOX AUX KEYS LENGTH CALL..`, answered by the start's answer, the replies and the record.
-pub(crate) fn declared(
-    line: &[u8],
-    bytes: &mut Bytes,
-    lent: &mut Bytes,
-    out: &mut Buffer,
-    at: usize,
-) -> usize {
-    let way = Way::read(words::word(line, 1));
-    let track = Places::read(words::word(line, 2), words::word(line, 3), bytes, 0);
-    let own = Places::read(
-        words::word(line, 4),
-        words::word(line, 5),
-        bytes,
-        track.second,
-    );
-    let length = Number::read(words::word(line, 6), u64::MAX);
-    let calls = words::after(line, 6);
-    let direction = way.direction;
-    if way.good && track.good && own.good && length.good && replies::are_calls(calls, lent) {
-        let started = start(
-            direction,
-            bytes,
-            track.first,
-            track.second,
-            own.first,
-            own.second,
-            length.value as usize,
-        );
-        let stream = started.stream;
-        let at = output::number_then(started.answer as u64, b' ', out, at);
-        replies::replies(stream, calls, bytes, lent, out, at)
-    } else {
-        output::malformed(out, at)
+fn put_direction(direction: Direction, out: &mut [u8], at: usize) -> usize {
+    match direction {
+        Direction::Lock => text::put(b"lock", out, at),
+        Direction::Open => text::put(b"open", out, at),
     }
 }
 
-fn start(
+// `DIRECTION [PARAMS]`, and a space after it.
+fn put_parameters(
     direction: Direction,
-    bytes: &[u8],
-    code: usize,
-    track_box: usize,
-    aux: usize,
-    keys: usize,
-    sample_length: usize,
-) -> Started
-    requires { ⌜ (code ≤ «track_box») × («track_box» ≤ aux) × (aux ≤ keys) × (keys ≤ length (now bytes)) ⌝ }
+    parameters: Parameters,
+    out: &mut [u8],
+    at: usize,
+) -> usize {
+    let at = put_direction(direction, out, at);
+    let at = text::put(b" [", out, at);
+    let at = boxes::put_parameters(parameters, out, at);
+    text::put(b"] ", out, at)
+}
+
+// `LENGTH [COUNT ENTRIES]`, and a space after it.
+fn put_map(length: usize, map: SubsampleMap, out: &mut [u8], at: usize) -> usize {
+    let at = output::number(length as u64, out, at);
+    let at = text::put(b" [", out, at);
+    let at = samples::put_map(map, out, at);
+    text::put(b"] ", out, at)
+}
+
+// `POSITION KEY BLOCK HELD HELDCOUNT`.
+fn put_progress(key: Key, progress: Progress, out: &mut [u8], at: usize) -> usize {
+    let key_bytes = key.0;
+    let block = progress.block;
+    let held = progress.held;
+    let at = output::number_then(progress.position as u64, b' ', out, at);
+    let at = output::bytes_then(&key_bytes, b' ', out, at);
+    let at = output::bytes_then(&block, b' ', out, at);
+    let at = output::bytes_then(&held, b' ', out, at);
+    output::number(progress.held_count as u64, out, at)
+}
+
+// `DIRECTION [PARAMS] LENGTH [COUNT ENTRIES] POSITION KEY BLOCK HELD HELDCOUNT`.
+fn put_record(stream: Stream, out: &mut [u8], at: usize) -> usize {
+    let declared = stream.declared;
+    let progress = stream.progress;
+    let direction = declared.direction;
+    let parameters = declared.parameters;
+    let map = declared.map;
+    let key = declared.key;
+    let at = put_parameters(direction, parameters, out, at);
+    let at = put_map(declared.length, map, out, at);
+    put_progress(key, progress, out, at)
+}
+
+// The record after a call, and where the text ends after the reply.
+struct Replied {
+    stream: Stream,
+    end: usize,
+}
+
+// `end`, answered `NUMBER`.
+fn end(stream: Stream, out: &mut [u8], at: usize) -> Replied {
+    let ended = stream::end(stream);
+    Replied {
+        stream,
+        end: output::number_then(ended.answer as u64, b' ', out, at),
+    }
+}
+
+// A piece, answered `NUMBER/BYTES`.
+fn feed(stream: Stream, piece: &[u8], lent: &mut [u8], out: &mut [u8], at: usize) -> Replied {
+    let fed = stream::feed(stream, piece, lent);
+    let next = fed.stream;
+    let at = output::number_then(fed.answer as u64, b'/', out, at);
+    Replied {
+        stream: next,
+        end: output::bytes_then(line::part(lent, 0, fed.released), b' ', out, at),
+    }
+}
+
+// The reply to a call, `PIECE/ROOM` or `end`, and a space after it. The piece is put into the buffer `bytes`.
+fn reply(
+    stream: Stream,
+    call: &[u8],
+    bytes: &mut [u8],
+    lent: &mut [u8],
+    out: &mut [u8],
+    at: usize,
+) -> Replied
+    requires { ⌜ 65536 ≤ length (now lent) ⌝ }
 {
-    stream::start(
-        direction,
-        &bytes[0..code],
-        &bytes[code..track_box],
-        &bytes[track_box..aux],
-        &bytes[aux..keys],
-        sample_length,
+    if octets::same(call, b"end") {
+        return end(stream, out, at);
+    }
+    let piece = text::read_bytes(text::word(call, 0, b'/'), bytes, 0);
+    let room = text::read_number(text::word(call, 1, b'/'), line::ROOM).value as usize;
+    feed(
+        stream,
+        line::part(bytes, 0, piece),
+        &mut lent[0..room],
+        out,
+        at,
     )
+}
+
+// The reply to each word of a line from one on, then the record.
+fn replies(
+    start: Stream,
+    line: &[u8],
+    first: usize,
+    bytes: &mut [u8],
+    lent: &mut [u8],
+    out: &mut [u8],
+    at: usize,
+) -> usize
+    requires { ⌜ 65536 ≤ length (now lent) ⌝ }
+{
+    let mut stream = start;
+    let mut end = at;
+    let mut from = first;
+    while from < line.len() {
+        let word = text::word_at(line, from, b' ');
+        let start = word.start;
+        let to = word.end;
+        from = to + 1;
+        end = output::make_room(out, end);
+        let replied = reply(stream, &line[start..to], bytes, lent, out, end);
+        let next = replied.stream;
+        stream = next;
+        end = replied.end;
+    }
+    put_record(stream, out, end)
+}
+
+// `stream DIRECTION CODE BOX AUX KEYS LENGTH CALL..`, answered by the start's answer, the replies and the record.
+pub(crate) fn started(
+    line: &[u8],
+    bytes: &mut [u8],
+    ends: Ends,
+    lent: &mut [u8],
+    out: &mut [u8],
+    at: usize,
+) -> usize
+    requires { ⌜ 65536 ≤ length (now lent) ⌝ }
+{
+    let started = start(line, bytes, ends);
+    let stream = started.stream;
+    let at = output::number_then(started.answer as u64, b' ', out, at);
+    replies(
+        stream,
+        line,
+        text::word_start(line, 7, b' '),
+        bytes,
+        lent,
+        out,
+        at,
+    )
+}
+
+fn start(line: &[u8], bytes: &[u8], ends: Ends) -> Started {
+    stream::start(
+        line::direction(line),
+        line::bytes(bytes, ends, 2),
+        line::bytes(bytes, ends, 3),
+        line::bytes(bytes, ends, 4),
+        line::bytes(bytes, ends, 5),
+        line::number(line, 6) as usize,
+    )
+}
+
+// All entries of a map, joined by commas.
+fn map(count: usize, word: &[u8]) -> SubsampleMap {
+    let mut clear = [0u16; SubsampleMap::LIMIT];
+    let mut protected = [0u32; SubsampleMap::LIMIT];
+    let mut at = 0;
+    for i in 0..SubsampleMap::LIMIT {
+        let entry = text::word_at(word, at, b',');
+        let from = entry.start;
+        let end = entry.end;
+        clear[i] = text::read_number(text::word(&word[from..end], 0, b':'), 65535).value as u16;
+        protected[i] = text::read_number(
+            text::word(&word[from..end], 1, b':'),
+            4294967295,
+        ).value as u32;
+        at = end + 1;
+    }
+    SubsampleMap {
+        clear,
+        protected,
+        count,
+    }
+}
+
+// A record, the words 1 to 16 of a line.
+fn record(line: &[u8], bytes: &[u8], ends: Ends) -> Stream {
+    let pattern = text::word(line, 4, b' ');
+    Stream {
+        declared: Declared {
+            direction: line::direction(line),
+            parameters: boxes::parameters(
+                line,
+                bytes,
+                ends,
+                line::bytes(bytes, ends, 2),
+                line::octet(line, 3),
+                text::read_number(text::word(pattern, 0, b':'), 255).value as u8,
+                text::read_number(text::word(pattern, 1, b':'), 255).value as u8,
+            ),
+            length: line::number(line, 9) as usize,
+            map: map(line::number(line, 10) as usize, text::word(line, 11, b' ')),
+            key: Key::new(octets::sixteen(line::bytes(bytes, ends, 13))),
+        },
+        progress: Progress {
+            position: line::number(line, 12) as usize,
+            block: octets::sixteen(line::bytes(bytes, ends, 14)),
+            held: octets::sixteen(line::bytes(bytes, ends, 15)),
+            held_count: line::number(line, 16) as usize,
+        },
+    }
 }
 
 // `record RECORD CALL..`, answered by the replies and the record.
 pub(crate) fn given(
     line: &[u8],
-    bytes: &mut Bytes,
-    lent: &mut Bytes,
-    out: &mut Buffer,
+    bytes: &mut [u8],
+    ends: Ends,
+    lent: &mut [u8],
+    out: &mut [u8],
     at: usize,
-) -> usize {
-    let record = Record::read(line);
-    let stream = record.stream;
-    let calls = words::after(line, 16);
-    if record.good && replies::are_calls(calls, lent) {
-        replies::replies(stream, calls, bytes, lent, out, at)
-    } else {
-        output::malformed(out, at)
-    }
+) -> usize
+    requires { ⌜ 65536 ≤ length (now lent) ⌝ }
+{
+    let stream = record(line, bytes, ends);
+    replies(
+        stream,
+        line,
+        text::word_start(line, 17, b' '),
+        bytes,
+        lent,
+        out,
+        at,
+    )
 }

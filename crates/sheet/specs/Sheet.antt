@@ -1,10 +1,10 @@
 -- Document 01, "The sheet program": the lines written for the bytes read, a scheme code and then a box.
 use mathlib.Core.Bool.{Bool, cond, _&&_}
-use mathlib.Core.List.{List, [], _∷_, _++_}
+use mathlib.Core.List.{List, _++_}
 use mathlib.Core.Path.{_≡_}
-use Prim.Native.Nat.{ℕ, _+_, _/_, _%_, _≤_}
+use Prim.Native.Nat.{ℕ, _+_, _≤_}
 use lib.Dec.{eqb, ltb}
-use lib.ListN.{length, getD, take, drop}
+use lib.ListN.{length, take, drop}
 use Rattle.octets.specs.Ascii.{ascii}
 use Rattle.text.specs.Text.{decimal, hex}
 use Rattle.track_spec.specs.Track.{known, hasConstant, readBox}

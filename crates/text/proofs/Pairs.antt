@@ -1,17 +1,17 @@
 -- Byte strings as pairs of digits.
-use mathlib.Core.Bool.{Bool, true, false, cond, not, _&&_, _||_}
+use mathlib.Core.Bool.{Bool, true, false, cond, not, _&&_}
 use mathlib.Core.List.{List, [], _∷_, _++_}
 use mathlib.Core.Logic.{_⊎_, inl, inr}
-use mathlib.Core.Path.{_≡_, refl, sym, ap, _∙_}
-use Prim.Native.Nat.{ℕ, zero, suc, _+_, _-_, _*_, _/_, _%_, _≤_, _<_}
+use mathlib.Core.Path.{_≡_, refl, ap}
+use Prim.Native.Nat.{ℕ, zero, suc, _+_, _*_, _/_, _%_, _≤_, _<_}
 use native.Mathlib.Omega.{arith}
 use lib.Dec.{eqb, leb}
 use lib.ListN.{length, getD, take, drop, set, take-append-drop}
 use lib.Seq.{paste, paste-suc}
-use borrow.Author.Tests.{le-leb, lt-leb, eq-eqb, ne-eqb}
+use borrow.Author.Tests.{le-leb, lt-leb, eq-eqb, ne-eqb, leb-true}
 use Rattle.octets.specs.Ascii.{ascii}
 use Rattle.octets.specs.Bytes.{same, placed}
-use Rattle.octets.proofs.Bytes.{placed-not, same-equal}
+use Rattle.octets.proofs.Bytes.{same-equal}
 use Rattle.octets.proofs.Tests.{&&-left, &&-right, or-true-cases}
 use Rattle.text.specs.Text.{digit, value, digitsBelow, hex, hexWord, isHex, isBytes, unhex, bytesOf, endOf}
 use Rattle.text.proofs.Digits.{below-at, value-digit}
@@ -125,6 +125,14 @@ module _ (s : List ℕ) (at : ℕ) (b : List ℕ) where
   pub end-not : length s < at + length b → endOf s at b ≡ at
   unfolding endOf
   end-not h = rw (lt-leb (at + length b) (length s) h)
+
+  pub end-inside : at ≤ length s → endOf s at b ≤ length s
+  unfolding endOf
+  end-inside h = go (leb (at + length b) (length s)) refl
+    where
+      go : (t : Bool) → leb (at + length b) (length s) ≡ t → cond t (at + length b) at ≤ length s
+      go true e = leb-true (at + length b) (length s) e
+      go false e = h
 
 -- nothing is put, and ends where it starts
 pub placed-none : (s : List ℕ) (at : ℕ) → placed s at [] ≡ s

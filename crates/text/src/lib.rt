@@ -1,7 +1,7 @@
 // Numbers and byte strings as text: decimal and hexadecimal digits, and the words of a line.
 ghost use mathlib.Core.Bool.{true};
 ghost use mathlib.Core.Path.{_≡_};
-ghost use Prim.Native.Nat.{_+_, _*_, _/_, _≤_};
+ghost use Prim.Native.Nat.{_+_, _*_, _/_, _≤_, min};
 ghost use lib.ListN.{length, drop};
 ghost use Rattle.octets.specs.Bytes.{placed};
 ghost use Rattle.text.specs.Text as spec;
@@ -193,7 +193,7 @@ pub struct Span {
 
 // The word from a place on, up to the next byte that parts words or the end of the line.
 pub fn word_at(line: &[u8], at: usize, parting: u8) -> Span
-    ensures { λ r. ⌜ (r ≡ spec.wordAt parting at (now (line .entry))) × (r .start ≤ r .end) × (r .end ≤ length (now (line .entry))) ⌝ }
+    ensures { λ r. ⌜ (r ≡ spec.wordAt parting at (now (line .entry))) × (r .start ≡ min at (length (now (line .entry)))) × (r .start ≤ r .end) × (r .end ≤ length (now (line .entry))) ⌝ }
 {
     if line.len() < at {
         return Span {
@@ -232,7 +232,8 @@ pub fn word(line: &[u8], index: usize, parting: u8) -> &[u8]
     &line[from..end]
 }
 
-fn word_start(line: &[u8], index: usize, parting: u8) -> usize
+// Where a word of a line starts; past the end where there are not so many.
+pub fn word_start(line: &[u8], index: usize, parting: u8) -> usize
     ensures { λ r. ⌜ drop r (now (line .entry)) ≡ spec.fromWord parting index (now (line .entry)) ⌝ }
 {
     let mut start = 0;

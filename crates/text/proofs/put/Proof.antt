@@ -1,5 +1,4 @@
 use mathlib.Core.Path.{sym}
-use lib.ListN.{length}
 use Rattle.octets.proofs.Bytes.{placed-not}
 use Rattle.text.proofs.Pairs.{end-fits, end-not}
 use borrow.Author.Needs.{needs}

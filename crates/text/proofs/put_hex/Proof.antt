@@ -1,6 +1,4 @@
 use mathlib.Core.Path.{sym}
-use Prim.Native.Nat.{_*_}
-use lib.ListN.{length}
 use Rattle.octets.proofs.Bytes.{placed-not}
 use Rattle.text.specs.Text as spec
 use Rattle.text.proofs.Pairs.{word-none, word-some, hex-length, end-fits, end-not}

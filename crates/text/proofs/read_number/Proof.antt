@@ -1,4 +1,4 @@
-use mathlib.Core.Path.{_≡_, sym, _∙_}
+use mathlib.Core.Path.{sym, _∙_}
 use Rattle.text.proofs.Digits.{number-empty, number-zeros, number-long, number-one}
 use borrow.Author.Needs.{needs}
 use native.Mathlib.Omega.{arith}

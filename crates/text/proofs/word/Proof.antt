@@ -1,4 +1,4 @@
-use mathlib.Core.Path.{_≡_, _∙_, ap}
+use mathlib.Core.Path.{_∙_, ap}
 use Rattle.text.specs.Text as spec
 use Rattle.text.proofs.Words.{word-bytes}
 use borrow.Author.Needs.{needs}
