@@ -4,7 +4,7 @@ ghost use lib.ListN.{length};
 use crate::boxes;
 use crate::issuers;
 use crate::line;
-use crate::output;
+use crate::line::Ends;
 use crate::samples;
 use crate::streams;
 use crate::volumes;
@@ -74,18 +74,26 @@ pub(crate) fn kind_of(line: &[u8]) -> Kind {
     Kind::Malformed
 }
 
-// Answers a line. The bytes of its words go to `bytes`, and what a call writes goes to `lent`.
-pub(crate) fn answer(
+// Answers a line.
+pub(crate) fn answer(kind: Kind, line: &[u8], out: &mut [u8], at: usize) -> usize {
+    let mut bytes = [0u8; line::BYTES];
+    let mut lent = [0u8; line::BYTES];
+    let ends = line::decode(line, &mut bytes);
+    answer_by(kind, line, &bytes, ends, &mut lent, out, at)
+}
+
+// By its kind. The bytes of its words are at hand, and what a call writes goes to `lent`.
+fn answer_by(
     kind: Kind,
     line: &[u8],
-    bytes: &mut [u8],
+    bytes: &[u8],
+    ends: Ends,
     lent: &mut [u8],
     out: &mut [u8],
     at: usize,
 ) -> usize
     requires { ⌜ 65536 ≤ length (now lent) ⌝ }
 {
-    let ends = line::decode(line, bytes);
     match kind {
         Kind::Box => boxes::read(bytes, ends, out, at),
         Kind::Write => boxes::write(line, bytes, ends, lent, out, at),

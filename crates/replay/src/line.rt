@@ -85,6 +85,9 @@ fn has_words(line: &[u8], signature: &[u8], more: u8) -> bool {
     signature.len() <= count
 }
 
+// As many bytes as a line can hold.
+pub const BYTES: usize = 131072;
+
 // How many words of a line may hold bytes, its name and its list at the end left out.
 const WORDS: usize = 17;
 

@@ -14,12 +14,10 @@ use libc::STDERR_FILENO;
 use libc::STDIN_FILENO;
 use output::Buffer;
 
-// The longest line, without its newline, and the most bytes that it holds.
+// The longest line, without its newline.
 const LONGEST: usize = 262144;
 
 type Line = [u8; LONGEST];
-
-type Bytes = [u8; 131072];
 
 // How much is held of a line, where the text ends that is still to be written, and how many lines were malformed.
 struct State {
@@ -68,13 +66,7 @@ fn count(kind: Kind, before: u64) -> u64 {
 }
 
 // Answers the line held; an empty line by an empty line.
-fn answer(
-    line: &[u8],
-    before: State,
-    bytes: &mut Bytes,
-    lent: &mut Bytes,
-    out: &mut Buffer,
-) -> State {
+fn answer(line: &[u8], before: State, out: &mut Buffer) -> State {
     let at = output::make_room(out, before.end);
     if before.held == 0 {
         return State {
@@ -85,7 +77,7 @@ fn answer(
     }
     let kind = kind_of(line, before.held);
     let text = line::part(line, 0, before.held);
-    let end = calls::answer(kind, text, bytes, lent, out, at);
+    let end = calls::answer(kind, text, out, at);
     State {
         held: 0,
         end: output::byte(b'\n', out, end),
@@ -94,14 +86,7 @@ fn answer(
 }
 
 // Answers the lines that end in a piece of the input, and holds what follows them.
-fn lines(
-    piece: &[u8],
-    before: State,
-    line: &mut Line,
-    bytes: &mut Bytes,
-    lent: &mut Bytes,
-    out: &mut Buffer,
-) -> State {
+fn lines(piece: &[u8], before: State, line: &mut Line, out: &mut Buffer) -> State {
     let mut state = before;
     let mut start = 0;
     while start < piece.len() {
@@ -111,7 +96,7 @@ fn lines(
         let held = hold(&piece[from..end], line, state.held);
         state.held = held;
         if end < piece.len() {
-            let next = answer(line, state, bytes, lent, out);
+            let next = answer(line, state, out);
             state = next;
         }
         start = end + 1;
@@ -121,11 +106,11 @@ fn lines(
 }
 
 // Answers a last line that has no newline.
-fn last(state: State, line: &Line, bytes: &mut Bytes, lent: &mut Bytes, out: &mut Buffer) -> State {
+fn last(state: State, line: &Line, out: &mut Buffer) -> State {
     if state.held == 0 {
         return state;
     }
-    let next = answer(line, state, bytes, lent, out);
+    let next = answer(line, state, out);
     State {
         held: 0,
         end: output::flush(out, next.end),
@@ -150,8 +135,6 @@ fn report(state: State, read: bool) {
 fn main() {
     let mut input = [0u8; 65536];
     let mut line = [0u8; LONGEST];
-    let mut bytes = [0u8; 131072];
-    let mut lent = [0u8; 131072];
     let mut out = [0u8; 1048576];
     let mut state = State {
         held: 0,
@@ -170,19 +153,12 @@ fn main() {
         if count == 0 {
             break;
         }
-        let next = lines(
-            &input[..count],
-            state,
-            &mut line,
-            &mut bytes,
-            &mut lent,
-            &mut out,
-        );
+        let next = lines(&input[..count], state, &mut line, &mut out);
         state = next;
         if state.end == output::FAILED {
             break;
         }
     }
-    let done = last(state, &line, &mut bytes, &mut lent, &mut out);
+    let done = last(state, &line, &mut out);
     report(done, read);
 }

@@ -94,11 +94,11 @@ fn feed(stream: Stream, piece: &[u8], lent: &mut [u8], out: &mut [u8], at: usize
     }
 }
 
-// The reply to a call, `PIECE/ROOM` or `end`, and a space after it. The piece is put into the buffer `bytes`.
+// The reply to a call, `PIECE/ROOM` or `end`, and a space after it.
 fn reply(
     stream: Stream,
     call: &[u8],
-    bytes: &mut [u8],
+    piece: &mut [u8],
     lent: &mut [u8],
     out: &mut [u8],
     at: usize,
@@ -108,11 +108,11 @@ fn reply(
     if octets::same(call, b"end") {
         return end(stream, out, at);
     }
-    let piece = text::read_bytes(text::word(call, 0, b'/'), bytes, 0);
+    let length = text::read_bytes(text::word(call, 0, b'/'), piece, 0);
     let room = text::read_number(text::word(call, 1, b'/'), line::ROOM).value as usize;
     feed(
         stream,
-        line::part(bytes, 0, piece),
+        line::part(piece, 0, length),
         &mut lent[0..room],
         out,
         at,
@@ -124,13 +124,13 @@ fn replies(
     start: Stream,
     line: &[u8],
     first: usize,
-    bytes: &mut [u8],
     lent: &mut [u8],
     out: &mut [u8],
     at: usize,
 ) -> usize
     requires { ⌜ 65536 ≤ length (now lent) ⌝ }
 {
+    let mut piece = [0u8; line::BYTES];
     let mut stream = start;
     let mut end = at;
     let mut from = first;
@@ -140,7 +140,7 @@ fn replies(
         let to = word.end;
         from = to + 1;
         end = output::make_room(out, end);
-        let replied = reply(stream, &line[start..to], bytes, lent, out, end);
+        let replied = reply(stream, &line[start..to], &mut piece, lent, out, end);
         let next = replied.stream;
         stream = next;
         end = replied.end;
@@ -151,7 +151,7 @@ fn replies(
 // `stream DIRECTION CODE BOX AUX KEYS LENGTH CALL..`, answered by the start's answer, the replies and the record.
 pub(crate) fn started(
     line: &[u8],
-    bytes: &mut [u8],
+    bytes: &[u8],
     ends: Ends,
     lent: &mut [u8],
     out: &mut [u8],
@@ -162,15 +162,7 @@ pub(crate) fn started(
     let started = start(line, bytes, ends);
     let stream = started.stream;
     let at = output::number_then(started.answer as u64, b' ', out, at);
-    replies(
-        stream,
-        line,
-        text::word_start(line, 7, b' '),
-        bytes,
-        lent,
-        out,
-        at,
-    )
+    replies(stream, line, text::word_start(line, 7, b' '), lent, out, at)
 }
 
 fn start(line: &[u8], bytes: &[u8], ends: Ends) -> Started {
@@ -238,7 +230,7 @@ fn record(line: &[u8], bytes: &[u8], ends: Ends) -> Stream {
 // `record RECORD CALL..`, answered by the replies and the record.
 pub(crate) fn given(
     line: &[u8],
-    bytes: &mut [u8],
+    bytes: &[u8],
     ends: Ends,
     lent: &mut [u8],
     out: &mut [u8],
@@ -251,7 +243,6 @@ pub(crate) fn given(
         stream,
         line,
         text::word_start(line, 17, b' '),
-        bytes,
         lent,
         out,
         at,

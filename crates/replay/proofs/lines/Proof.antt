@@ -5,10 +5,10 @@ use Rattle.replay.proofs.lines.Statement.{statement}
 use Rattle.replay.proofs.lines.Tie as tie
 
 abbrev Inv-loop : tie.InvT-loop
-Inv-loop piece line₀ bytes₀ lent₀ out₀ state₀ start₀ line bytes lent out state start = start ≤ length piece + 1
+Inv-loop piece line₀ out₀ state₀ start₀ line out state start = start ≤ length piece + 1
 
 abbrev μ-loop : tie.MeasureT-loop
-μ-loop piece line₀ bytes₀ lent₀ out₀ state₀ start₀ line bytes lent out state start = length piece - start
+μ-loop piece line₀ out₀ state₀ start₀ line out state start = length piece - start
 
 pub lines-spec : {M : Type 1} → statement M
 lines-spec =

@@ -6,10 +6,10 @@ use Rattle.replay.proofs.main.Statement.{statement}
 use Rattle.replay.proofs.main.Tie as tie
 
 abbrev Inv-loop : tie.InvT-loop
-Inv-loop input₀ line₀ bytes₀ lent₀ out₀ state₀ read₀ counter₀ input line bytes lent out state read counter = length input ≡ 65536
+Inv-loop input₀ line₀ out₀ state₀ read₀ counter₀ input line out state read counter = length input ≡ 65536
 
 abbrev μ-loop : tie.MeasureT-loop
-μ-loop input₀ line₀ bytes₀ lent₀ out₀ state₀ read₀ counter₀ input line bytes lent out state read counter = 18446744073709551615 - counter
+μ-loop input₀ line₀ out₀ state₀ read₀ counter₀ input line out state read counter = 18446744073709551615 - counter
 
 pub main-spec : {M : Type 1} → statement M
 main-spec =
