@@ -69,39 +69,3 @@ impl Issuer {
         (0, vector)
     }
 }
-
-#[cfg(test)]
-mod tests {
-    use super::*;
-
-    fn numbers(start: &[u8], counts: &[u64]) -> Vec<u8> {
-        let (number, mut issuer) = Issuer::start(start);
-        let grants = counts.iter().map(|&count| issuer.grant(count).0);
-        [number].into_iter().chain(grants).collect()
-    }
-
-    #[test]
-    fn top() {
-        let mut start = [0xff; 16];
-        start[15] = 0xfd;
-        assert_eq!(numbers(&start, &[4, 2, 2, 1, 1]), [0, 20, 0, 20, 0, 20]);
-        start[7] = 0xfe;
-        assert_eq!(
-            numbers(&start[..8], &[0, 1_048_576, 1_048_577, 1, 1]),
-            [0, 19, 0, 19, 0, 20]
-        );
-        assert_eq!(numbers(&start[..9], &[0, 1]), [31, 19, 20]);
-    }
-
-    #[test]
-    fn vectors() {
-        let (_, mut issuer) = Issuer::start(&[1; 16]);
-        issuer.grant(0x0303);
-        let (_, vector) = issuer.grant(1);
-        assert_eq!(vector, [1, 1, 1, 1, 1, 1, 1, 1, 1, 1, 1, 1, 1, 1, 4, 4]);
-        let (_, mut issuer) = Issuer::start(&[1; 8]);
-        issuer.grant(0x0303);
-        let (_, vector) = issuer.grant(1);
-        assert_eq!(vector, [1, 1, 1, 1, 1, 1, 1, 2, 0, 0, 0, 0, 0, 0, 0, 0]);
-    }
-}

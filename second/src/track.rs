@@ -159,42 +159,15 @@ fn fixed<const N: usize>(bytes: &[u8]) -> [u8; N] {
 mod tests {
     use super::*;
 
-    /// The box in document 01's example of a sheet.
-    fn example() -> Vec<u8> {
-        let mut bytes = b"\0\0\0\x31tenc\x01\0\0\0\0\x19\x01\0".to_vec();
-        bytes.extend(0..16);
-        bytes.push(16);
-        bytes.extend([0xaa; 16]);
-        bytes
-    }
-
+    /// A line of `replay` does not show the output past what was written, nor after a refusal.
     #[test]
-    fn example_is_read_and_written() {
-        let parameters = read(b"cbcs", &example()).unwrap();
-        assert_eq!((parameters.crypt, parameters.skip), (1, 9));
-        assert_eq!(parameters.constant, [0xaa; 16]);
-        let mut out = [7; 50];
-        assert_eq!(write(&parameters, &mut out), Ok(49));
-        assert_eq!(out[..49], example());
-        assert_eq!(out[49], 7);
-        assert_eq!(write(&parameters, &mut out[..48]), Err(17));
-    }
-
-    #[test]
-    fn refusals() {
-        let changed = |place: usize, value| {
-            let mut bytes = example();
-            bytes[place] = value;
-            read(b"cbcs", &bytes).unwrap_err()
-        };
-        assert_eq!(read(b"cbc", &[]), Err(1));
-        assert_eq!(read(b"cens", &example()), Err(4));
-        assert_eq!(changed(3, 0x32), 2);
-        assert_eq!(changed(7, b'C'), 2);
-        assert_eq!(changed(8, 0), 3);
-        assert_eq!(changed(12, 1), 3);
-        assert_eq!(changed(13, 0x09), 4);
-        assert_eq!(changed(14, 2), 4);
-        assert_eq!(changed(32, 15), 4);
+    fn only_the_box_is_written() {
+        let parameters = Parameters::REFUSED;
+        let mut out = [7; 33];
+        assert_eq!(write(&parameters, &mut out[..31]), Err(17));
+        assert_eq!(out, [7; 33]);
+        assert_eq!(write(&parameters, &mut out), Ok(32));
+        assert_eq!(out[..4], [0, 0, 0, 32]);
+        assert_eq!(out[32], 7);
     }
 }

@@ -1,9 +1,7 @@
-//! The published vectors, worked out again, a long chain of blocks under changing keys, document 01's samples, and calls on volumes.
-
-mod volumes;
+//! The published vectors, worked out again, and a long chain of blocks under changing keys.
 
 use crate::track::{self, Parameters};
-use crate::{aes, hex, sample, subsample};
+use crate::{aes, hex, sample};
 use std::io::{self, Write};
 
 const KEY: &str = "2b7e151628aed2a6abf7158809cf4f3c";
@@ -45,9 +43,7 @@ fn block(text: &str) -> [u8; 16] {
 pub fn print(out: &mut impl Write) -> io::Result<()> {
     fips_197(out)?;
     sp_800_38a(out)?;
-    chained(out)?;
-    samples(out)?;
-    volumes::print(out)
+    chained(out)
 }
 
 fn fips_197(out: &mut impl Write) -> io::Result<()> {
@@ -92,9 +88,8 @@ fn sp_800_38a(out: &mut impl Write) -> io::Result<()> {
         ("F.5.1", sample::lock, b"cenc", CTR_IV, PLAIN),
         ("F.5.2", sample::open, b"cenc", CTR_IV, CTR),
     ] {
-        let track_box = box_of(code, 0, 0, 16);
         let mut data = text.map(block).concat();
-        done(call, code, &track_box, &block(iv), &mut data);
+        done(call, code, &block(iv), &mut data);
         blocks(out, name, &data)?;
     }
     Ok(())
@@ -102,25 +97,18 @@ fn sp_800_38a(out: &mut impl Write) -> io::Result<()> {
 
 type Call = fn(&[u8], &[u8], &[u8], &[u8], &mut [u8]) -> u8;
 
-/// The box of a protected track in the lowest version that has the pattern, with zeros for a constant IV.
-fn box_of(code: &[u8; 4], crypt: u8, skip: u8, iv_size: u8) -> Vec<u8> {
+/// A whole sample under the published key, accepted.
+fn done(call: Call, code: &[u8; 4], iv: &[u8; 16], data: &mut [u8]) {
     let parameters = Parameters {
         code: *code,
-        version: crypt.min(1),
-        crypt,
-        skip,
         protected: 1,
-        iv_size,
+        iv_size: 16,
         kid: KID,
         ..Parameters::REFUSED
     };
-    track::bytes(&parameters).expect("accepted parameters")
-}
-
-/// A whole sample under the published key, accepted.
-fn done(call: Call, code: &[u8], track_box: &[u8], aux: &[u8], data: &mut [u8]) {
+    let track_box = track::bytes(&parameters).expect("accepted parameters");
     let keys = [KID, block(KEY)].concat();
-    assert_eq!(call(code, track_box, aux, &keys, data), 0);
+    assert_eq!(call(code, &track_box, iv, &keys, data), 0);
 }
 
 fn blocks(out: &mut impl Write, name: &str, data: &[u8]) -> io::Result<()> {
@@ -174,65 +162,6 @@ fn report(
     Ok(())
 }
 
-/// Document 01's samples 1 to 5, and 8 to 11.
-fn samples(out: &mut impl Write) -> io::Result<()> {
-    locked_samples(out)?;
-    read_samples(out)
-}
-
-/// Samples 1 to 5: zeros locked under a start vector of zeros.
-fn locked_samples(out: &mut impl Write) -> io::Result<()> {
-    let two_entries = [
-        &[0; 16][..],
-        &[0, 2],
-        &[0, 0, 0, 0, 0, 10],
-        &[0, 4, 0, 0, 0, 10],
-    ]
-    .concat();
-    for (name, code, crypt, skip, aux, length) in [
-        ("1", b"cenc", 0, 0, &[0; 16][..], 20),
-        ("2", b"cbc1", 0, 0, &[0; 16], 20),
-        ("3", b"cenc", 0, 0, &two_entries, 24),
-        ("4", b"cbcs", 1, 9, &[], 340),
-        ("5 64", b"cens", 2, 1, &[0; 16], 64),
-        ("5 63", b"cens", 2, 1, &[0; 16], 63),
-    ] {
-        let iv_size = aux.len().min(16) as u8;
-        let mut data = vec![0; length];
-        let track_box = box_of(code, crypt, skip, iv_size);
-        done(sample::lock, code, &track_box, aux, &mut data);
-        writeln!(out, "sample {name} {}", hex::write(&data))?;
-    }
-    Ok(())
-}
-
-/// Samples 8 to 11, which the reader of auxiliary data answers.
-fn read_samples(out: &mut impl Write) -> io::Result<()> {
-    let cenc = box_of(b"cenc", 0, 0, 8);
-    let cbc1 = box_of(b"cbc1", 0, 0, 16);
-    let cbcs = box_of(b"cbcs", 1, 9, 0);
-    let read = |code: &[u8], track_box: &[u8], length, aux: &[u8]| {
-        subsample::read(code, track_box, length, aux).map_or_else(|number| number, |_| 0)
-    };
-    let aux = [&[0; 8][..], &[0, 1], &[0; 6]].concat();
-    writeln!(out, "sample 8 empty {}", read(b"cenc", &cenc, 0, &aux))?;
-    let aux = [&[0; 8][..], &[0, 2], &[0, 1, 0, 0, 0, 0], &[0; 6]].concat();
-    writeln!(out, "sample 8 one byte {}", read(b"cenc", &cenc, 1, &aux))?;
-    for length in [32, 31] {
-        let aux = [&[0; 16][..], &[0, 1], &[0, 0, 0, 0, 0, length]].concat();
-        let number = read(b"cbc1", &cbc1, length.into(), &aux);
-        writeln!(out, "sample 9 {length} {number}")?;
-    }
-    for count in [64, 65] {
-        let aux = [vec![0, count], [0, 0, 0, 0, 0, 1].repeat(count.into())].concat();
-        let number = read(b"cbcs", &cbcs, count.into(), &aux);
-        writeln!(out, "sample 10 {count} entries {number}")?;
-    }
-    writeln!(out, "sample 11 short {}", read(b"cenc", &cenc, 0, &[0; 9]))?;
-    let number = read(b"cenx", &cenc[1..], 0, &[]);
-    writeln!(out, "sample 11 scheme and box {number}")
-}
-
 #[cfg(test)]
 mod tests {
     use super::*;
@@ -260,32 +189,5 @@ mod tests {
                 assert!(lines.contains(&line), "{line}");
             }
         }
-    }
-
-    /// The bytes of a sample's line; locked, a block of zeros is not zero.
-    fn bytes(name: &str) -> Vec<u8> {
-        let lines = lines();
-        let mut texts = lines.iter().filter_map(|line| line.strip_prefix(name));
-        hex::read(texts.next().unwrap().as_bytes()).unwrap()
-    }
-
-    fn changed_blocks(bytes: &[u8]) -> Vec<usize> {
-        let blocks = bytes.chunks(16).enumerate();
-        let changed = blocks.filter(|(_, block)| block.iter().any(|&byte| byte != 0));
-        changed.map(|(i, _)| i).collect()
-    }
-
-    #[test]
-    fn samples_of_document_01() {
-        let (stream, entries) = (bytes("sample 1 "), bytes("sample 3 "));
-        assert_eq!(stream.len(), 20);
-        assert_eq!(changed_blocks(&stream), [0, 1]);
-        assert_eq!(entries[..10], stream[..10]);
-        assert_eq!(entries[10..14], [0; 4]);
-        assert_eq!(entries[14..], stream[10..]);
-        assert_eq!(changed_blocks(&bytes("sample 2 ")), [0]);
-        assert_eq!(changed_blocks(&bytes("sample 4 ")), [0, 10, 20]);
-        assert_eq!(changed_blocks(&bytes("sample 5 64 ")), [0, 1, 3]);
-        assert_eq!(changed_blocks(&bytes("sample 5 63 ")), [0, 1]);
     }
 }

@@ -158,48 +158,21 @@ fn four(bytes: &[u8]) -> u32 {
 mod tests {
     use super::*;
 
-    fn added(volume: &[u8], record: &[u8], term: u32, today: u32) -> Vec<u8> {
-        let mut out = vec![7; 500];
-        let length = add(volume, record, term, today, &mut out).unwrap();
-        assert_eq!(
-            add(volume, record, term, today, &mut out[..length - 1]),
-            Err(53)
-        );
-        assert_eq!(out[length], 7);
-        out.truncate(length);
-        out
-    }
-
+    /// A line of `replay` does not show the output past what was written, nor after a refusal.
     #[test]
-    fn records() {
-        let mut none = [1; 24];
-        assert_eq!(empty(&mut none[..23]), Err(53));
-        assert_eq!(empty(&mut none), Ok(24));
-        assert_eq!(check(&none), Ok(()));
-        assert_eq!(record(&none, 0), Err(51));
-        let two = added(&added(&none, b"abc", 3, 10), b"", 0, 10);
-        assert_eq!(two.len(), 3 + 3 * 24);
-        assert_eq!(record(&two, 0), Ok(&b"abc"[..]));
-        assert_eq!(record(&two, 1), Ok(&b""[..]));
-        assert_eq!(record(&two, 2), Err(51));
-        assert_eq!(add(&two, b"", 0, 9, &mut [0; 200]), Err(52));
-        assert_eq!(dispose(&two, 0, 9), Err(52));
-        assert_eq!(dispose(&two, 0, 12), Err(54));
-        assert_eq!(dispose(&two, 0, 13), Ok(()));
-        assert_eq!(dispose(&two, 2, 0), Err(51));
-    }
-
-    /// A term may be anything, and so may the record's bytes.
-    #[test]
-    fn one_byte_changed() {
-        let volume = added(&added(&[0; 24], b"abc", 3, 10), b"de", 0, 11);
-        for place in 0..volume.len() {
-            let mut other = volume.clone();
-            other[place] ^= 1;
-            let in_term = (25..29).contains(&place) || (49..53).contains(&place);
-            let in_first_day = place == 24;
-            let free = place < 5 || in_term || in_first_day;
-            assert_eq!(check(&other).is_ok(), free, "{place}");
-        }
+    fn only_the_volume_is_written() {
+        let mut out = [7; 50];
+        assert_eq!(empty(&mut out[..23]), Err(53));
+        assert_eq!(out, [7; 50]);
+        assert_eq!(empty(&mut out), Ok(24));
+        assert_eq!(out[..24], [0; 24]);
+        assert_eq!(out[24..], [7; 26]);
+        let mut out = [7; 50];
+        assert_eq!(add(&[0; 24], b"a", 3, 10, &mut out[..48]), Err(53));
+        assert_eq!(add(b"abc", b"a", 3, 10, &mut out), Err(50));
+        assert_eq!(out, [7; 50]);
+        assert_eq!(add(&[0; 24], b"a", 3, 10, &mut out), Ok(49));
+        assert_eq!(out[..2], [b'a', 0]);
+        assert_eq!(out[49], 7);
     }
 }

@@ -1,7 +1,4 @@
-// The published vectors of FIPS 197 and SP 800-38A, chained blocks under changing keys, document 01's samples 1 to 5 and 8 to 11,
-// and calls on volumes, a line each.
-mod volumes;
-
+// The published vectors of FIPS 197 and SP 800-38A, and chained blocks under changing keys, a line each.
 use aes::Block;
 use aes::Key;
 use aes::RoundKeys;
@@ -18,18 +15,6 @@ fn print_number(n: usize) {
 fn print_bytes(b: [u8; 16]) {
     io::print_hex(STDOUT_FILENO, numbers::be64(&b, 0), 16);
     io::print_hex(STDOUT_FILENO, numbers::be64(&b, 8), 16);
-}
-
-fn print_byte(b: u8) {
-    io::print_hex(STDOUT_FILENO, b as u64, 2);
-}
-
-fn print_all(s: &[u8]) {
-    let mut i = 0;
-    while i < s.len() {
-        print_byte(s[i]);
-        i += 1;
-    }
 }
 
 fn print_word(w: [u8; 4]) {
@@ -219,129 +204,6 @@ fn back_all(text: &[u8], last: Chain) -> Chain {
     c
 }
 
-// A line with what locking makes of zeros.
-fn locked_line(text: &[u8], code: &[u8], track_box: &[u8], auxiliary: &[u8], data: &mut [u8]) {
-    whole(false, code, track_box, auxiliary, data);
-    print(text);
-    print_all(data);
-    print(b"\n");
-}
-
-// Document 01's samples 1 to 3, in cenc and cbc1 with IVs of 16 bytes.
-fn unpatterned_samples(track_box: &[u8]) {
-    let iv = [0u8; 16];
-    let mut first = [0u8; 20];
-    locked_line(b"sample 1 ", b"cenc", track_box, &iv, &mut first);
-    let mut second = [0u8; 20];
-    locked_line(b"sample 2 ", b"cbc1", track_box, &iv, &mut second);
-    let mut third = [0u8; 24];
-    locked_line(
-        b"sample 3 ",
-        b"cenc",
-        track_box,
-        b"\x00\x00\x00\x00\x00\x00\x00\x00\x00\x00\x00\x00\x00\x00\x00\x00\x00\x02\x00\x00\x00\x00\x00\x0a\x00\x04\x00\x00\x00\x0a",
-        &mut third,
-    );
-}
-
-// Samples 4 and 5, in cbcs 1:9 and cens 2:1.
-fn patterned_samples(cbcs: &[u8], cens: &[u8]) {
-    let iv = [0u8; 16];
-    let mut fourth = [0u8; 340];
-    locked_line(b"sample 4 ", b"cbcs", cbcs, b"", &mut fourth);
-    let mut even = [0u8; 64];
-    locked_line(b"sample 5 64 ", b"cens", cens, &iv, &mut even);
-    let mut odd = [0u8; 63];
-    locked_line(b"sample 5 63 ", b"cens", cens, &iv, &mut odd);
-}
-
-// A line with what reading auxiliary data answers.
-fn sample_line(text: &[u8], code: &[u8], track_box: &[u8], auxiliary: &[u8], length: usize) {
-    let read = subsample::read(code, track_box, auxiliary, length);
-    print(text);
-    print_number(read.answer as usize);
-    print(b"\n");
-}
-
-// Samples 8 and 11, in cenc with IVs of 8 bytes.
-fn cenc_samples(track_box: &[u8]) {
-    sample_line(
-        b"sample 8 empty ",
-        b"cenc",
-        track_box,
-        b"\x00\x00\x00\x00\x00\x00\x00\x00\x00\x01\x00\x00\x00\x00\x00\x00",
-        0,
-    );
-    sample_line(
-        b"sample 8 one byte ",
-        b"cenc",
-        track_box,
-        b"\x00\x00\x00\x00\x00\x00\x00\x00\x00\x02\x00\x01\x00\x00\x00\x00\x00\x00\x00\x00\x00\x00",
-        1,
-    );
-}
-
-// Sample 9, in cbc1.
-fn cbc1_samples(track_box: &[u8]) {
-    sample_line(
-        b"sample 9 32 ",
-        b"cbc1",
-        track_box,
-        b"\x00\x00\x00\x00\x00\x00\x00\x00\x00\x00\x00\x00\x00\x00\x00\x00\x00\x01\x00\x00\x00\x00\x00\x20",
-        32,
-    );
-    sample_line(
-        b"sample 9 31 ",
-        b"cbc1",
-        track_box,
-        b"\x00\x00\x00\x00\x00\x00\x00\x00\x00\x00\x00\x00\x00\x00\x00\x00\x00\x01\x00\x00\x00\x00\x00\x1f",
-        31,
-    );
-}
-
-// The data of `count` entries (0, 1), in cbcs.
-fn unit_entries(count: u16, out: &mut [u8]) {
-    numbers::put16(count, out, 0);
-    for i in 0..count as usize {
-        numbers::put32(1, out, 6 * i + 4);
-    }
-}
-
-// Sample 10, in cbcs.
-fn cbcs_samples(track_box: &[u8]) {
-    let mut most = [0u8; 386];
-    unit_entries(64, &mut most);
-    sample_line(b"sample 10 64 entries ", b"cbcs", track_box, &most, 64);
-    let mut more = [0u8; 392];
-    unit_entries(65, &mut more);
-    sample_line(b"sample 10 65 entries ", b"cbcs", track_box, &more, 65);
-}
-
-// Document 01's samples 1 to 5, and 8 to 11.
-fn samples() {
-    let cenc =
-        b"\x00\x00\x00\x20tenc\x00\x00\x00\x00\x00\x00\x01\x08\x01\x01\x01\x01\x01\x01\x01\x01\x01\x01\x01\x01\x01\x01\x01\x01";
-    let cbc1 =
-        b"\x00\x00\x00\x20tenc\x00\x00\x00\x00\x00\x00\x01\x10\x01\x01\x01\x01\x01\x01\x01\x01\x01\x01\x01\x01\x01\x01\x01\x01";
-    let cbcs =
-        b"\x00\x00\x00\x31tenc\x01\x00\x00\x00\x00\x19\x01\x00\x01\x01\x01\x01\x01\x01\x01\x01\x01\x01\x01\x01\x01\x01\x01\x01\x10\x00\x00\x00\x00\x00\x00\x00\x00\x00\x00\x00\x00\x00\x00\x00\x00";
-    let cens =
-        b"\x00\x00\x00\x20tenc\x01\x00\x00\x00\x00\x21\x01\x10\x01\x01\x01\x01\x01\x01\x01\x01\x01\x01\x01\x01\x01\x01\x01\x01";
-    unpatterned_samples(cbc1);
-    patterned_samples(cbcs, cens);
-    cenc_samples(cenc);
-    cbc1_samples(cbc1);
-    cbcs_samples(cbcs);
-    sample_line(
-        b"sample 11 short ",
-        b"cenc",
-        cenc,
-        b"\x00\x00\x00\x00\x00\x00\x00\x00\x00",
-        0,
-    );
-    sample_line(b"sample 11 scheme and box ", b"cenx", b"tenc", b"", 0);
-}
-
 // FIPS 197, appendix B.
 fn cipher_example(keys: RoundKeys) {
     block_line(
@@ -409,6 +271,4 @@ fn main() {
     chaining();
     counter();
     chains();
-    samples();
-    volumes::volumes();
 }
