@@ -16,7 +16,7 @@
 
 enum { SCHEME, BOX, AUXILIARY, KEYS, SAMPLE, RANGES };
 
-enum { LONGEST = 16777216, MOST_ENTRIES = 64, SHORT = 8192, LINE = 120000, MARGIN = 32, FILLED = 0xa5 };
+enum { SHORT = 8192, LINE = 120000, MARGIN = 32, FILLED = 0xa5 };
 
 /* Small xorshift. */
 static uint64_t state;
@@ -59,7 +59,7 @@ static struct {
 } made[RANGES];
 
 static size_t room(int range) {
-    return range == SAMPLE ? LONGEST + 1 : SHORT;
+    return range == SAMPLE ? CENC_MAX_SAMPLE_LENGTH + 1 : SHORT;
 }
 
 static uint64_t seed, call;
@@ -146,10 +146,10 @@ static size_t make_auxiliary(const struct kind *kind, int faulty) {
         return once_in(16) ? below(5000) : below(200);
     }
     int empty = once_in(16);
-    size_t count = once_in(8) ? 1 + below(MOST_ENTRIES) : 1 + below(5);
+    size_t count = once_in(8) ? 1 + below(CENC_MAX_ENTRIES) : 1 + below(5);
     size_t fault = faulty ? below(8) : 8;
     if (fault == 0) {
-        count = MOST_ENTRIES + 1 + below(3);
+        count = CENC_MAX_ENTRIES + 1 + below(3);
     }
     put(bytes + at, 2, count);
     at += 2;
@@ -223,11 +223,11 @@ static int make(void) {
     make_box(kind);
     memcpy(made[KEYS].bytes, made[BOX].bytes + 16, 16);
     fill(made[KEYS].bytes + 16, 16);
-    made[KEYS].length = 32;
+    made[KEYS].length = CENC_KEY_RECORD_LENGTH;
     made[SAMPLE].length = make_auxiliary(kind, !sound && once_in(2));
     if (!sound) {
         if (once_in(4096)) {
-            made[SAMPLE].length = LONGEST + 1;
+            made[SAMPLE].length = CENC_MAX_SAMPLE_LENGTH + 1;
         }
         for (size_t faults = below(4); faults > 0; faults--) {
             damage(once_in(16) ? SCHEME : BOX + (int)below(RANGES - BOX));

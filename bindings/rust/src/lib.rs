@@ -1,5 +1,15 @@
 //! `include/cenc.h` over slices.
 
+pub mod refusal;
+
+/// The most that a call takes: bytes of a sample, subsample entries of a sample, key records.
+pub const MAX_SAMPLE_LENGTH: usize = 16_777_216;
+pub const MAX_ENTRIES: usize = 64;
+pub const MAX_KEY_RECORDS: usize = 1;
+
+/// The bytes of a key record: the KID, then the key, 16 each.
+pub const KEY_RECORD_LENGTH: usize = 32;
+
 type Call = unsafe extern "C" fn(
     *const u8,
     usize,

@@ -12,7 +12,7 @@ pub const ENTRIES: u8 = 9;
 // An entry 0 and 0 in a sample that isn't empty.
 pub const EMPTY_ENTRY: u8 = 10;
 
-// The lengths don't add up to the sample's.
+// The entries' lengths don't add up to the sample's.
 pub const SUM: u8 = 11;
 
 // A cbc1 entry whose protected length isn't a multiple of 16.

@@ -4,7 +4,7 @@ pub const DONE: u8 = 0;
 // The scheme code isn't four bytes naming one of the four.
 pub const SCHEME: u8 = 1;
 
-// The box has under 32 bytes, or its size isn't the slice's length, or its type isn't `tenc`.
+// The box has under 32 bytes, or its size field isn't its length, or its type isn't `tenc`.
 pub const FRAME: u8 = 2;
 
 // Version above 1, flags or zero byte not zero, or a pattern in version 0.

@@ -33,7 +33,7 @@ fn run() -> Result<(), String> {
     let mut sample = recording.clone();
 
     cenc::lock(b"cenc", TRACK_BOX, &auxiliary, KEY_RECORD, &mut sample)
-        .map_err(|number| format!("locking was refused ({number})"))?;
+        .map_err(|number| refused("lock", number))?;
     for start in [0, LENGTH / 2] {
         let (clear, end) = (start + CLEAR, start + CLEAR + 16);
         if sample[start..clear] != recording[start..clear]
@@ -48,7 +48,7 @@ fn run() -> Result<(), String> {
     );
 
     cenc::open(b"cenc", TRACK_BOX, &auxiliary, KEY_RECORD, &mut sample)
-        .map_err(|number| format!("opening was refused ({number})"))?;
+        .map_err(|number| refused("open", number))?;
     if sample != recording {
         return Err("opening did not give the recording back".to_string());
     }
@@ -57,6 +57,10 @@ fn run() -> Result<(), String> {
         hex(&sample)
     );
     Ok(())
+}
+
+fn refused(call: &str, number: u8) -> String {
+    format!("{call} refused {number}: {}", cenc::refusal::text(number))
 }
 
 /// The first 16 protected bytes.

@@ -1,16 +1,12 @@
 //! Calls the C interface and the second program on the same samples: `host cases SEED COUNT` on generated ones, `host longest`
-//! on those of the greatest length and a byte more.
+//! on those at each limit and one past it.
 
+use cenc::{refusal, KEY_RECORD_LENGTH, MAX_ENTRIES, MAX_KEY_RECORDS, MAX_SAMPLE_LENGTH};
 use second::track::{self, Parameters};
 use second::{cases, hex, sample};
 
 /// Bytes on each side of a sample that no call may change.
 const MARGIN: usize = 16;
-
-/// The greatest length of a sample.
-const LONGEST: usize = 16_777_216;
-
-const MOST_ENTRIES: usize = 64;
 
 type Ours = fn(&[u8], &[u8], &[u8], &[u8], &mut [u8]) -> Result<(), u8>;
 type Second = fn(&[u8], &[u8], &[u8], &[u8], &mut [u8]) -> u8;
@@ -130,9 +126,12 @@ fn read(line: &[u8]) -> Option<(Calls, Inputs, Vec<u8>)> {
     Some((calls, inputs, bytes()?))
 }
 
-/// Every scheme at the greatest length, without entries and with as many as there may be, and with a byte more.
+/// Every scheme at the greatest length, without entries and with as many as there may be, and with a byte more; then as many key
+/// records as there may be, and an entry or a key record more.
 fn longest() -> Result<String, String> {
-    let contents: Vec<u8> = (0..=LONGEST).map(|i| (i * 7 % 251) as u8).collect();
+    let contents: Vec<u8> = (0..=MAX_SAMPLE_LENGTH)
+        .map(|i| (i * 7 % 251) as u8)
+        .collect();
     let mut done = 0;
     for (code, crypt, skip, iv_size) in [
         (b"cenc", 0, 0, 8),
@@ -142,9 +141,12 @@ fn longest() -> Result<String, String> {
         (b"cens", 1, 9, 16),
         (b"cbcs", 1, 9, 0),
     ] {
-        for entries in [0, MOST_ENTRIES] {
+        for entries in [0, MAX_ENTRIES] {
             for calls in [LOCK, OPEN] {
-                for (length, due) in [(LONGEST, 0), (LONGEST + 1, 7)] {
+                for (length, due) in [
+                    (MAX_SAMPLE_LENGTH, 0),
+                    (MAX_SAMPLE_LENGTH + 1, refusal::LENGTH),
+                ] {
                     let name = String::from_utf8_lossy(code);
                     let told = |what| {
                         format!(
@@ -161,7 +163,23 @@ fn longest() -> Result<String, String> {
             }
         }
     }
-    Ok(format!("{done} calls at 16777216 bytes and one more alike"))
+    for (entries, records, due) in [
+        (0, MAX_KEY_RECORDS, 0),
+        (0, MAX_KEY_RECORDS + 1, refusal::KEY_RECORD),
+        (MAX_ENTRIES + 1, 1, refusal::ENTRIES),
+    ] {
+        let told = |what| format!("cenc, {entries} entries, {records} key records: {what}");
+        let mut inputs = inputs(b"cenc", 0, 0, 8, entries);
+        for record in 1..records {
+            inputs.keys.extend([0xe0 + record as u8; KEY_RECORD_LENGTH]);
+        }
+        let number = compare(&LOCK, &inputs, &contents[..64]).map_err(told)?;
+        if number != due {
+            return Err(told(format!("answered {number} and not {due}")));
+        }
+        done += 1;
+    }
+    Ok(format!("{done} calls at the limits and past them alike"))
 }
 
 /// Inputs for the greatest length, with so many equal entries.
@@ -181,7 +199,7 @@ fn inputs(code: &[u8; 4], crypt: u8, skip: u8, iv_size: u8, entries: usize) -> I
     if entries > 0 {
         aux.extend((entries as u16).to_be_bytes());
         let clear = 48u16;
-        let protected = (LONGEST / entries) as u32 - u32::from(clear);
+        let protected = (MAX_SAMPLE_LENGTH / entries) as u32 - u32::from(clear);
         for _ in 0..entries {
             aux.extend(clear.to_be_bytes());
             aux.extend(protected.to_be_bytes());
@@ -191,6 +209,6 @@ fn inputs(code: &[u8; 4], crypt: u8, skip: u8, iv_size: u8, entries: usize) -> I
         code: code.to_vec(),
         track_box: track::bytes(&parameters).expect("accepted parameters"),
         aux,
-        keys: [kid, [3; 16]].concat(),
+        keys: [&kid[..], &[3; KEY_RECORD_LENGTH - 16]].concat(),
     }
 }
