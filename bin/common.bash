@@ -1,10 +1,11 @@
-# What the scripts of this folder share. Each has a function `usage` that prints how to use it.
+# What the scripts of this folder share. Each reads this file by its full name, and has a function `usage` that prints how to use
+# it.
 
 # A write to a closed pipe then fails and can be told; otherwise it would end the program without a word.
 trap '' PIPE
 
 name=$(basename "$0")
-home=$(dirname "$(dirname "$(readlink -f "${BASH_SOURCE[0]}")")")
+home=$(dirname "$(dirname "${BASH_SOURCE[0]}")")
 
 # failed TEXT: says what failed, and ends with status 2
 failed() {
@@ -36,15 +37,15 @@ program() {
 
 # input WORD..: standard input is the file that the one word names, or stays if there is none or it is '-'
 input() {
-    local reason
     [ $# -le 1 ] || wrong_words
     case ${1--} in
     -) return ;;
     -* | '') wrong_words ;;
     esac
+    [ -e "$1" ] || failed "cannot read $1: there is no such file"
     [ ! -d "$1" ] || failed "cannot read $1: it is a folder"
-    reason=$({ : <"$1"; } 2>&1) || failed "cannot read $1: ${reason##*: }"
-    exec <"$1"
+    [ -r "$1" ] || failed "cannot read $1: it may not be read"
+    exec <"$1" || exit 2
 }
 
 # tell TEXT: TEXT on standard output; where it cannot be written, `reason` has why
