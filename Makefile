@@ -1,18 +1,29 @@
 # make test   proves every crate and runs every test; its last line counts them
+#             only='stream seeded' runs a part, only=help lists the words
+# make times  puts the figures of the last 'make test' into docs/PERFORMANCE.md
 # make demo   builds, and shows the main job
 # make bench  measures, prints the figures, and puts them into docs/PERFORMANCE.md and docs/speed.svg
 # make fuzz   tries damaged inputs for a minute
 
-.PHONY: test demo bench fuzz
+.PHONY: test times demo bench fuzz
+
+# Set here, so that a variable of the environment does not make a part of the gate.
+only =
 
 test:
-	@tests/run
+	@tests/run $(only)
+
+times:
+	@tests/times
 
 demo:
-	@mkdir -p target
-	@rt check feeder sheet >target/demo.log 2>&1 || { cat target/demo.log; exit 1; }
-	@rt staticlib cenc >target/demo.log 2>&1 || { cat target/demo.log; exit 1; }
+	@echo 'Proving and building the programs feeder and sheet and the C interface. Where nothing is proved yet this takes'
+	@echo 'about four minutes on two cores:'
+	@tests/prove feeder sheet
+	@tests/archive
+	@echo 'A file locked and opened in pieces, and the sheet of its box:'
 	@examples/feeder/run
+	@echo 'A buffer locked and opened from C:'
 	@examples/c/run
 
 bench:
@@ -22,7 +33,6 @@ bench:
 	@bench/record target/speed.md
 
 fuzz:
-	@mkdir -p target
-	@rt check replay >target/fuzz.log 2>&1 || { cat target/fuzz.log; exit 1; }
-	@rt staticlib cenc >target/fuzz.log 2>&1 || { cat target/fuzz.log; exit 1; }
+	@tests/prove replay
+	@tests/archive
 	@fuzz/run 60
