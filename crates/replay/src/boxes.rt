@@ -51,8 +51,8 @@ pub(crate) fn parameters(
         version,
         crypt,
         skip,
-        protected: line::octet(line, 5),
-        iv_size: line::octet(line, 6),
+        protected: text::number_at(line, 5, b' ', 255) as u8,
+        iv_size: text::number_at(line, 6, b' ', 255) as u8,
         kid: Kid::new(octets::sixteen(line::bytes(bytes, ends, 7))),
         constant_iv: StartVector::new(octets::sixteen(line::bytes(bytes, ends, 8))),
     }
@@ -74,11 +74,11 @@ pub(crate) fn write(
         bytes,
         ends,
         line::bytes(bytes, ends, 1),
-        line::octet(line, 2),
-        line::octet(line, 3),
-        line::octet(line, 4),
+        text::number_at(line, 2, b' ', 255) as u8,
+        text::number_at(line, 3, b' ', 255) as u8,
+        text::number_at(line, 4, b' ', 255) as u8,
     );
-    let room = line::room(line, 9);
+    let room = text::number_at(line, 9, b' ', line::ROOM) as usize;
     let written = track::write(p, &mut lent[0..room]);
     output::answer(written.answer, line::part(lent, 0, written.length), out, at)
 }

@@ -27,48 +27,45 @@ pub enum Kind {
     Malformed,
 }
 
-// A list of words at the end, of a kind that no word is of.
-const NONE: u8 = b'-';
-
-// The rows: a line's name and the signature of the words behind it.
+// The rows.
 pub(crate) fn kind_of(line: &[u8]) -> Kind {
-    if line::fits(line, b"box", b"bb", NONE) {
+    if line::fits(line, b"box bb") {
         return Kind::Box;
     }
-    if line::fits(line, b"write", b"fooooossr", NONE) {
+    if line::fits(line, b"write fooooossr") {
         return Kind::Write;
     }
-    if line::fits(line, b"aux", b"bbnb", NONE) {
+    if line::fits(line, b"aux bbnb") {
         return Kind::Auxiliary;
     }
-    if line::fits(line, b"lock", b"bbbbb", NONE) {
+    if line::fits(line, b"lock bbbbb") {
         return Kind::Lock;
     }
-    if line::fits(line, b"open", b"bbbbb", NONE) {
+    if line::fits(line, b"open bbbbb") {
         return Kind::Open;
     }
-    if line::fits(line, b"stream", b"dbbbbn", b'c') {
+    if line::fits(line, b"stream dbbbbn c") {
         return Kind::Stream;
     }
-    if line::fits(line, b"record", b"dfopoossnnensssn", b'c') {
+    if line::fits(line, b"record dfopoossnnensssn c") {
         return Kind::Record;
     }
-    if line::fits(line, b"issuer", b"b", b'n') {
+    if line::fits(line, b"issuer b n") {
         return Kind::Issuer;
     }
-    if line::fits(line, b"vempty", b"r", NONE) {
+    if line::fits(line, b"vempty r") {
         return Kind::EmptyVolume;
     }
-    if line::fits(line, b"vcheck", b"b", NONE) {
+    if line::fits(line, b"vcheck b") {
         return Kind::CheckVolume;
     }
-    if line::fits(line, b"vrecord", b"bn", NONE) {
+    if line::fits(line, b"vrecord bn") {
         return Kind::VolumeRecord;
     }
-    if line::fits(line, b"vadd", b"bbwwr", NONE) {
+    if line::fits(line, b"vadd bbwwr") {
         return Kind::AddRecord;
     }
-    if line::fits(line, b"vdispose", b"bnw", NONE) {
+    if line::fits(line, b"vdispose bnw") {
         return Kind::Dispose;
     }
     Kind::Malformed

@@ -1,6 +1,4 @@
 // The words of a line, parted by single spaces: whether they are those of a signature, and what they hold.
-ghost use Prim.Native.Nat.{_≤_};
-ghost use lib.ListN.{length};
 use modes::Direction;
 use subsample::SubsampleMap;
 
@@ -59,8 +57,12 @@ fn is(letter: u8, word: &[u8]) -> bool {
     }
 }
 
-// Whether a line has this name and then the words of this signature; behind them any number of words of the kind `more` may follow.
-pub(crate) fn fits(line: &[u8], name: &[u8], signature: &[u8], more: u8) -> bool {
+// Whether a line is one of a row: `NAME SIGNATURE`, or `NAME SIGNATURE LETTER` where any number of words may follow that hold what the
+// letter says.
+pub(crate) fn fits(line: &[u8], row: &[u8]) -> bool {
+    let name = text::word(row, 0, b' ');
+    let signature = text::word(row, 1, b' ');
+    let more = octets::byte_at(text::word(row, 2, b' '), 0);
     octets::same(text::word(line, 0, b' '), name) && has_words(line, signature, more)
 }
 
@@ -128,24 +130,6 @@ pub(crate) fn bytes(buffer: &[u8], ends: Ends, word: usize) -> &[u8] {
         }
     }
     &buffer[0..0]
-}
-
-pub(crate) fn number(line: &[u8], word: usize) -> u64 {
-    text::read_number(text::word(line, word, b' '), u64::MAX).value
-}
-
-pub(crate) fn octet(line: &[u8], word: usize) -> u8 {
-    text::read_number(text::word(line, word, b' '), 255).value as u8
-}
-
-pub(crate) fn days(line: &[u8], word: usize) -> u32 {
-    text::read_number(text::word(line, word, b' '), 4294967295).value as u32
-}
-
-pub(crate) fn room(line: &[u8], word: usize) -> usize
-    ensures { λ r. ⌜ r ≤ 65536 ⌝ }
-{
-    text::read_number(text::word(line, word, b' '), ROOM).value as usize
 }
 
 // The direction that the second word names.

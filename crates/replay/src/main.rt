@@ -118,11 +118,32 @@ fn last(state: State, line: &Line, out: &mut Buffer) -> State {
     }
 }
 
-// Says what failed, or how many lines were malformed.
-fn report(state: State, read: bool) {
-    if !read {
+// One reading of the input: whether there is more, and what it comes to.
+struct Turn {
+    more: bool,
+    state: State,
+}
+
+fn take_turn(state: State, line: &mut Line, out: &mut Buffer) -> Turn {
+    let mut input = [0u8; 65536];
+    let got = libc::read(STDIN_FILENO, &mut input);
+    if got < 0 {
         say(b"cannot read standard input");
+        return Turn { more: false, state };
     }
+    let count = io::count(got, &input);
+    if count == 0 {
+        return Turn { more: false, state };
+    }
+    let next = lines(&input[..count], state, line, out);
+    Turn {
+        more: next.end != output::FAILED,
+        state: next,
+    }
+}
+
+// Says that writing failed, or how many lines were malformed.
+fn report(state: State) {
     if state.end == output::FAILED {
         say(b"cannot write to standard output");
     } else if 0 < state.malformed {
@@ -133,32 +154,21 @@ fn report(state: State, read: bool) {
 }
 
 fn main() {
-    let mut input = [0u8; 65536];
     let mut line = [0u8; LONGEST];
-    let mut out = [0u8; 1048576];
+    let mut out = [0u8; output::SIZE];
     let mut state = State {
         held: 0,
         end: 0,
         malformed: 0,
     };
-    let mut read = true;
     // Nothing says that the input ends, so the loop has an end of its own, which no input reaches.
     for _ in 0..u64::MAX {
-        let got = libc::read(STDIN_FILENO, &mut input);
-        if got < 0 {
-            read = false;
-            break;
-        }
-        let count = io::count(got, &input);
-        if count == 0 {
-            break;
-        }
-        let next = lines(&input[..count], state, &mut line, &mut out);
+        let turn = take_turn(state, &mut line, &mut out);
+        let next = turn.state;
         state = next;
-        if state.end == output::FAILED {
+        if !turn.more {
             break;
         }
     }
-    let done = last(state, &line, &mut out);
-    report(done, read);
+    report(last(state, &line, &mut out));
 }

@@ -3,7 +3,7 @@
 use libc::STDOUT_FILENO;
 
 // Room for two of the longest answers or replies.
-const SIZE: usize = 1048576;
+pub const SIZE: usize = 1048576;
 
 pub type Buffer = [u8; SIZE];
 

@@ -50,7 +50,7 @@ pub(crate) fn auxiliary(line: &[u8], bytes: &[u8], ends: Ends, out: &mut [u8], a
         line::bytes(bytes, ends, 1),
         line::bytes(bytes, ends, 2),
         line::bytes(bytes, ends, 4),
-        line::number(line, 3) as usize,
+        text::number_at(line, 3, b' ', u64::MAX) as usize,
     );
     let map = read.map;
     let iv = read.iv;

@@ -109,7 +109,7 @@ fn reply(
         return end(stream, out, at);
     }
     let length = text::read_bytes(text::word(call, 0, b'/'), piece, 0);
-    let room = text::read_number(text::word(call, 1, b'/'), line::ROOM).value as usize;
+    let room = text::number_at(call, 1, b'/', line::ROOM) as usize;
     feed(
         stream,
         line::part(piece, 0, length),
@@ -172,7 +172,7 @@ fn start(line: &[u8], bytes: &[u8], ends: Ends) -> Started {
         line::bytes(bytes, ends, 3),
         line::bytes(bytes, ends, 4),
         line::bytes(bytes, ends, 5),
-        line::number(line, 6) as usize,
+        text::number_at(line, 6, b' ', u64::MAX) as usize,
     )
 }
 
@@ -185,7 +185,7 @@ fn map(count: usize, word: &[u8]) -> SubsampleMap {
         let entry = text::word_at(word, at, b',');
         let from = entry.start;
         let end = entry.end;
-        clear[i] = text::read_number(text::word(&word[from..end], 0, b':'), 65535).value as u16;
+        clear[i] = text::number_at(&word[from..end], 0, b':', 65535) as u16;
         protected[i] = text::read_number(
             text::word(&word[from..end], 1, b':'),
             4294967295,
@@ -210,19 +210,22 @@ fn record(line: &[u8], bytes: &[u8], ends: Ends) -> Stream {
                 bytes,
                 ends,
                 line::bytes(bytes, ends, 2),
-                line::octet(line, 3),
-                text::read_number(text::word(pattern, 0, b':'), 255).value as u8,
-                text::read_number(text::word(pattern, 1, b':'), 255).value as u8,
+                text::number_at(line, 3, b' ', 255) as u8,
+                text::number_at(pattern, 0, b':', 255) as u8,
+                text::number_at(pattern, 1, b':', 255) as u8,
             ),
-            length: line::number(line, 9) as usize,
-            map: map(line::number(line, 10) as usize, text::word(line, 11, b' ')),
+            length: text::number_at(line, 9, b' ', u64::MAX) as usize,
+            map: map(
+                text::number_at(line, 10, b' ', u64::MAX) as usize,
+                text::word(line, 11, b' '),
+            ),
             key: Key::new(octets::sixteen(line::bytes(bytes, ends, 13))),
         },
         progress: Progress {
-            position: line::number(line, 12) as usize,
+            position: text::number_at(line, 12, b' ', u64::MAX) as usize,
             block: octets::sixteen(line::bytes(bytes, ends, 14)),
             held: octets::sixteen(line::bytes(bytes, ends, 15)),
-            held_count: line::number(line, 16) as usize,
+            held_count: text::number_at(line, 16, b' ', u64::MAX) as usize,
         },
     }
 }

@@ -5,11 +5,14 @@ use crate::line;
 use crate::line::Ends;
 use crate::output;
 
+// The largest day, and the most days of term.
+const DAYS: u64 = 4294967295;
+
 // `vempty ROOM`, answered `NUMBER BYTES`.
 pub(crate) fn empty(line: &[u8], lent: &mut [u8], out: &mut [u8], at: usize) -> usize
     requires { ⌜ 65536 ≤ length (now lent) ⌝ }
 {
-    let room = line::room(line, 1);
+    let room = text::number_at(line, 1, b' ', line::ROOM) as usize;
     let written = volume::empty(&mut lent[0..room]);
     output::answer(written.answer, line::part(lent, 0, written.length), out, at)
 }
@@ -23,7 +26,7 @@ pub(crate) fn check(bytes: &[u8], ends: Ends, out: &mut [u8], at: usize) -> usiz
 // `vrecord VOLUME INDEX`, answered `NUMBER BYTES`.
 pub(crate) fn record(line: &[u8], bytes: &[u8], ends: Ends, out: &mut [u8], at: usize) -> usize {
     let volume = line::bytes(bytes, ends, 1);
-    let found = volume::record(volume, line::number(line, 2));
+    let found = volume::record(volume, text::number_at(line, 2, b' ', u64::MAX));
     let rest = line::part(volume, found.offset, volume.len());
     output::answer(found.answer, line::part(rest, 0, found.length), out, at)
 }
@@ -39,12 +42,12 @@ pub(crate) fn add(
 ) -> usize
     requires { ⌜ 65536 ≤ length (now lent) ⌝ }
 {
-    let room = line::room(line, 5);
+    let room = text::number_at(line, 5, b' ', line::ROOM) as usize;
     let written = volume::add(
         line::bytes(bytes, ends, 1),
         line::bytes(bytes, ends, 2),
-        line::days(line, 3),
-        line::days(line, 4),
+        text::number_at(line, 3, b' ', DAYS) as u32,
+        text::number_at(line, 4, b' ', DAYS) as u32,
         &mut lent[0..room],
     );
     output::answer(written.answer, line::part(lent, 0, written.length), out, at)
@@ -54,8 +57,8 @@ pub(crate) fn add(
 pub(crate) fn dispose(line: &[u8], bytes: &[u8], ends: Ends, out: &mut [u8], at: usize) -> usize {
     let answer = volume::disposable(
         line::bytes(bytes, ends, 1),
-        line::number(line, 2),
-        line::days(line, 3),
+        text::number_at(line, 2, b' ', u64::MAX),
+        text::number_at(line, 3, b' ', DAYS) as u32,
     );
     output::number(answer as u64, out, at)
 }

@@ -245,3 +245,10 @@ pub fn word_start(line: &[u8], index: usize, parting: u8) -> usize
     }
     start
 }
+
+// The number from 0 to the largest that a word of a line is; 0 where it is none.
+pub fn number_at(line: &[u8], index: usize, parting: u8, largest: u64) -> u64
+    ensures { λ r. ⌜ (r ≡ spec.number (spec.word parting index (now (line .entry))) largest .value) × (r ≤ largest) ⌝ }
+{
+    read_number(word(line, index, parting), largest).value
+}
