@@ -3,6 +3,7 @@ ghost use Prim.Native.Nat.{_≤_};
 ghost use lib.ListN.{length};
 use crate::feeding;
 use modes::Direction;
+use text::Number;
 
 // The place of each; the program's own name is at 0.
 const WAY: usize = 1;
@@ -21,8 +22,10 @@ pub const IN: usize = 7;
 
 pub const OUT: usize = 8;
 
-// How many there are.
-pub const COUNT: usize = 9;
+const LENGTH: usize = 9;
+
+// How many there are, without the length.
+const COUNT: usize = 9;
 
 // Puts a word at the start of a buffer and answers its length. One that is too long is cut, and still too long for a name.
 pub(crate) fn word(place: usize, text: &mut [u8]) -> usize
@@ -58,41 +61,41 @@ impl Way {
     }
 }
 
+// The number from 0 to the largest that a word is, and whether it is one.
+fn number(place: usize, largest: u64) -> Number
+    ensures { λ r. ⌜ r .value ≤ largest ⌝ }
+{
+    let mut text = io::buffer();
+    let length = word(place, &mut text);
+    text::read_number(&text[0..length], largest)
+}
+
 // The size of a piece, 0 where it is none.
 pub(crate) fn piece_size() -> usize
     ensures { λ r. ⌜ r ≤ 65536 ⌝ }
 {
-    let mut text = io::buffer();
-    let length = word(PIECE, &mut text);
-    decimal(&text[0..length])
+    number(PIECE, feeding::PIECE as u64).value as usize
 }
 
-// A digit's value, 10 if it is none.
-fn digit(c: u8) -> u8
-    ensures { λ r. ⌜ r ≤ 10 ⌝ }
-{
-    match c {
-        b'0'..=b'9' => c - b'0',
-        _ => 10,
-    }
+// The length that is declared for standard input.
+pub(crate) fn declared_length() -> Number {
+    number(LENGTH, u64::MAX)
 }
 
-// The number from 1 to the largest piece that is written in decimal, otherwise 0.
-fn decimal(text: &[u8]) -> usize
-    ensures { λ r. ⌜ r ≤ 65536 ⌝ }
-{
-    let mut value = 0;
-    let mut i = 0;
-    while i < text.len() {
-        let d = digit(text[i]);
-        if 9 < d {
-            return 0;
-        }
-        value = value * 10 + d as usize;
-        if feeding::PIECE < value {
-            return 0;
-        }
-        i += 1;
+// `-` stands for standard input or standard output.
+pub(crate) fn is_standard(name: &[u8]) -> bool {
+    octets::same(name, b"-")
+}
+
+// A name as it is told.
+pub(crate) fn shown<'a>(name: &'a [u8], standard: &'a [u8]) -> &'a [u8] {
+    if is_standard(name) { standard } else { name }
+}
+
+// Whether there are as many words as there should be: a length is declared exactly for standard input.
+pub(crate) fn are_complete(input: &[u8]) -> bool {
+    if is_standard(input) {
+        return os::arg_count() == COUNT + 1 && declared_length().good;
     }
-    value
+    os::arg_count() == COUNT
 }

@@ -3,6 +3,8 @@ ghost use Prim.Native.Nat.{_≤_};
 ghost use lib.ListN.{length as lengthOf};
 use crate::arguments;
 use crate::tell;
+use libc::STDIN_FILENO;
+use libc::STDOUT_FILENO;
 
 // The most bytes of a box, of auxiliary data and of a key record.
 pub const LONGEST: usize = 4096;
@@ -50,12 +52,20 @@ pub(crate) fn fill(file: i32, buffer: &mut [u8]) -> Bytes
 }
 
 // Opens a file for reading, and answers its number, or one below 0.
-pub(crate) fn open(name: &[u8]) -> i32 {
+fn open(name: &[u8]) -> i32 {
     let file = os::open_read(name);
     if file < 0 {
         tell::cannot(b"read", name);
     }
     file
+}
+
+// The same of a sample, which may be standard input.
+pub(crate) fn open_sample(name: &[u8]) -> i32 {
+    if arguments::is_standard(name) {
+        return STDIN_FILENO;
+    }
+    open(name)
 }
 
 // Reads a short file whole, into a buffer with room for a byte more.
@@ -92,7 +102,7 @@ fn unsigned(n: i64) -> usize {
 }
 
 // The length of an open file whose reading has not begun. A folder fails at the first reading.
-pub(crate) fn length(file: i32) -> Bytes {
+fn length_of(file: i32) -> Bytes {
     if libc::read(file, &mut [0; 0]) < 0 {
         return Bytes::FAILED;
     }
@@ -106,8 +116,22 @@ pub(crate) fn length(file: i32) -> Bytes {
     }
 }
 
-// Makes a file for writing, and answers its number, or one below 0.
+// The length of an open sample: that of the file, or the one declared for standard input.
+pub(crate) fn length(file: i32, name: &[u8]) -> Bytes {
+    if arguments::is_standard(name) {
+        return Bytes {
+            good: true,
+            count: arguments::declared_length().value as usize,
+        };
+    }
+    length_of(file)
+}
+
+// Makes a file for writing, and answers its number, or one below 0. Standard output is there.
 pub(crate) fn create(name: &[u8]) -> i32 {
+    if arguments::is_standard(name) {
+        return STDOUT_FILENO;
+    }
     let file = os::create(name);
     if file < 0 {
         tell::cannot(b"create", name);
@@ -115,8 +139,12 @@ pub(crate) fn create(name: &[u8]) -> i32 {
     file
 }
 
-// Closes a file that was written, and answers whether its bytes have reached the device, if that is asked.
+// Closes a file that was written, and answers whether its bytes have reached the device, if that is asked. What was written to
+// standard output has gone out.
 pub(crate) fn finish(file: i32, asked: bool, name: &[u8]) -> bool {
+    if arguments::is_standard(name) {
+        return asked;
+    }
     if !asked {
         libc::close(file);
         return false;
@@ -133,8 +161,11 @@ pub(crate) fn finish(file: i32, asked: bool, name: &[u8]) -> bool {
     true
 }
 
-// Removes a file.
+// Removes a file. What has gone out to standard output stays there.
 pub(crate) fn remove(name: &[u8]) {
+    if arguments::is_standard(name) {
+        return;
+    }
     if os::unlink(name) < 0 {
         tell::cannot(b"remove", name);
     }

@@ -1,13 +1,15 @@
 // Locks or opens a sample, from a file into a new file, in pieces:
 //
-//     feeder lock|open SCHEME BOX AUX KEYS PIECE IN OUT
+//     feeder lock|open SCHEME BOX AUX KEYS PIECE IN OUT [LENGTH]
 //
 // A line on standard output tells how it went, for a Rattle program has no exit status of its own; standard error has the
 // system's reason for a failure. After `done N` the N bytes of OUT have reached its device; after any other line OUT is as
-// it was before.
+// it was before. IN is `-` for standard input, whose length is then declared by LENGTH, and OUT is `-` for standard output; the line is
+// then on standard error, and what was written before a failure has gone out.
 mod arguments;
 mod feeding;
 mod files;
+mod refusals;
 mod tell;
 
 ghost use Prim.Native.Nat.{_≤_};
@@ -105,7 +107,11 @@ fn feed_into(stream: Stream, size: usize, input: i32, input_name: &[u8], output_
     let mut out = [0u8; feeding::OUTPUT];
     let fed = feeding::feed_all(stream, size, &mut piece, &mut out, input, output);
     let ending = fed.ending;
-    let ended = came_to_end(ending, input_name, output_name);
+    let ended = came_to_end(
+        ending,
+        arguments::shown(input_name, b"standard input"),
+        arguments::shown(output_name, b"standard output"),
+    );
     if files::finish(output, ended, output_name) {
         if tell::done(fed.written) {
             return;
@@ -118,7 +124,7 @@ fn feed_into(stream: Stream, size: usize, input: i32, input_name: &[u8], output_
 fn feed_from(direction: Direction, size: usize, input: i32, input_name: &[u8], output_name: &[u8])
     requires { ⌜ size ≤ 65536 ⌝ }
 {
-    let length = files::length(input);
+    let length = files::length(input, input_name);
     if !length.good {
         tell::cannot(b"read", input_name);
         return;
@@ -134,7 +140,7 @@ fn feed_from(direction: Direction, size: usize, input: i32, input_name: &[u8], o
 fn feed(direction: Direction, size: usize, input_name: &[u8], output_name: &[u8])
     requires { ⌜ size ≤ 65536 ⌝ }
 {
-    let input = files::open(input_name);
+    let input = files::open_sample(input_name);
     if input < 0 {
         return;
     }
@@ -145,14 +151,14 @@ fn feed(direction: Direction, size: usize, input_name: &[u8], output_name: &[u8]
 fn main() {
     let way = Way::read();
     let size = arguments::piece_size();
-    if os::arg_count() != arguments::COUNT || !way.good || size == 0 {
-        tell::usage();
-        return;
-    }
     let mut input = io::buffer();
     let mut output = io::buffer();
     let input_length = arguments::word(arguments::IN, &mut input);
     let output_length = arguments::word(arguments::OUT, &mut output);
+    if !arguments::are_complete(&input[0..input_length]) || !way.good || size == 0 {
+        tell::usage();
+        return;
+    }
     let direction = way.direction;
     feed(
         direction,

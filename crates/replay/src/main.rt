@@ -147,9 +147,9 @@ fn report(state: State) {
     if state.end == output::FAILED {
         say(b"cannot write to standard output");
     } else if 0 < state.malformed {
-        io::write_all(STDERR_FILENO, b"replay: malformed lines: ");
+        io::write_all(STDERR_FILENO, b"replay: ");
         io::print_decimal(STDERR_FILENO, state.malformed);
-        io::write_all(STDERR_FILENO, b"\n");
+        io::write_all(STDERR_FILENO, b" lines malformed\n");
     }
 }
 
