@@ -1,44 +1,20 @@
 -- Texts: their lengths, and what stands where they are put.
-use mathlib.Core.Bool.{Bool, true, false, cond}
-use mathlib.Core.List.{List, [], _∷_, _++_, append-assoc}
+use mathlib.Core.Bool.{Bool, true, false}
+use mathlib.Core.List.{List, _++_, append-assoc}
 use mathlib.Core.Path.{_≡_, refl, sym, ap, _∙_}
-use Prim.Native.Nat.{ℕ, _+_, _/_, _%_, _≤_, _<_}
+use Prim.Native.Nat.{ℕ, _+_, _≤_}
 use native.Mathlib.Omega.{arith}
-use lib.Dec.{ltb}
 use lib.ListN.{length, take, drop, length-append, length-drop}
 use lib.Seq.{length-take-le, drop-drop, take-at, drop-at}
-use borrow.Author.Tests.{lt-ltb, le-ltb}
 use Rattle.octets.specs.Bytes.{placed}
 use Rattle.octets.proofs.Bytes.{placed-fits}
 use Rattle.octets.specs.Ascii.{ascii}
 use Rattle.track_spec.specs.Track.{hasConstant}
 use Rattle.track_spec.specs.declared.Parameters.{Parameters}
-use Rattle.text.specs.Text.{digit, decimal, hex}
+use Rattle.text.specs.Text.{decimal, hex}
+use Rattle.text.proofs.Digits.{decimal-length}
 use Rattle.text.proofs.Pairs.{hex-length}
 use Rattle.sheet.specs.Sheet.{line, patternLine, constantLine, sheet, Put}
-
--- ---- Numbers and bytes.
-
-module _ (n : ℕ) where
-  pub decimal-one : n < 10 → decimal n ≡ digit n ∷ []
-  unfolding decimal
-  decimal-one h = rw (lt-ltb n 10 h)
-
-  pub decimal-two : 10 ≤ n → n < 100 → decimal n ≡ digit (n / 10) ∷ digit (n % 10) ∷ []
-  unfolding decimal
-  decimal-two l h = rw (le-ltb n 10 l, lt-ltb n 100 h)
-
-  pub decimal-three : 100 ≤ n → decimal n ≡ digit (n / 100) ∷ digit (n / 10 % 10) ∷ digit (n % 10) ∷ []
-  unfolding decimal
-  decimal-three l = rw (le-ltb n 10 (omega arith), le-ltb n 100 l)
-
-at-most : (k : ℕ) (t : Bool) (a b : List ℕ) → length a ≤ k → length b ≤ k → length (cond t a b) ≤ k
-at-most k true a b h l = h
-at-most k false a b h l = l
-
-decimal-length : (n : ℕ) → length (decimal n) ≤ 3
-unfolding decimal
-decimal-length n = at-most 3 (ltb n 10) _ _ (omega arith) (at-most 3 (ltb n 100) _ _ (omega arith) (omega arith))
 
 -- ---- Lines.
 

@@ -1,5 +1,5 @@
 -- Byte strings as pairs of digits.
-use mathlib.Core.Bool.{Bool, true, false, cond, not, _&&_}
+use mathlib.Core.Bool.{Bool, true, false, cond, not, _&&_, _||_}
 use mathlib.Core.List.{List, [], _∷_, _++_}
 use mathlib.Core.Logic.{_⊎_, inl, inr}
 use mathlib.Core.Path.{_≡_, refl, ap}
@@ -8,7 +8,7 @@ use native.Mathlib.Omega.{arith}
 use lib.Dec.{eqb, leb}
 use lib.ListN.{length, getD, take, drop, set, take-append-drop}
 use lib.Seq.{paste, paste-suc}
-use borrow.Author.Tests.{le-leb, lt-leb, eq-eqb, ne-eqb, leb-true}
+use borrow.Author.Tests.{le-leb, lt-leb, eq-eqb, ne-eqb, lt-ltb, leb-true}
 use Rattle.octets.specs.Ascii.{ascii}
 use Rattle.octets.specs.Bytes.{same, placed}
 use Rattle.octets.proofs.Bytes.{same-equal}
@@ -153,10 +153,35 @@ end-none s at = go (leb (at + 0) (length s))
 
 -- ---- What is written reads back.
 
--- every byte of a string is below 256
-pub unhex-hex : (s : List ℕ) → ((i : ℕ) → getD s i 0 < 256) → unhex (hex s) ≡ s
+unhex-hex : (s : List ℕ) → ((i : ℕ) → getD s i 0 < 256) → unhex (hex s) ≡ s
 unfolding hex unhex
 unhex-hex [] h = refl
 unhex-hex (b ∷ bs) h =
     let e : b / 16 * 16 + b % 16 ≡ b = omega arith in
     rw (value-digit (b / 16) (omega (arith, h 0)), value-digit (b % 16) (omega arith), e, unhex-hex bs (λ i. h (suc i)))
+
+hex-digits : (s : List ℕ) → ((i : ℕ) → getD s i 0 < 256) → digitsBelow 16 (hex s) ≡ true
+unfolding hex digitsBelow
+hex-digits [] h = refl
+hex-digits (b ∷ bs) h =
+    let l : b / 16 < 16 = omega (arith, h 0) in
+    let m : b % 16 < 16 = omega arith in
+    rw (value-digit (b / 16) l, value-digit (b % 16) m, lt-ltb (b / 16) 16 l, lt-ltb (b % 16) 16 m) (hex-digits bs (λ i. h (suc i)))
+
+hex-is-bytes : (s : List ℕ) → ((i : ℕ) → getD s i 0 < 256) → 0 < length s → isBytes (hex s) ≡ true
+unfolding isBytes isHex
+hex-is-bytes s h l =
+    let n = hex-length s in
+    rw (hex-digits s h, ne-eqb (length (hex s)) 0 (λ e. omega (arith, n)), eq-eqb (length (hex s) % 2) 0 (omega (arith, n)))
+    (go (same (hex s) (ascii "-")))
+  where
+    go : (a : Bool) → a || true ≡ true
+    go true = refl
+    go false = refl
+
+-- every byte of a string is below 256
+pub bytes-read-back : (s : List ℕ) → ((i : ℕ) → getD s i 0 < 256) → bytesOf (hexWord s) ≡ s
+unfolding bytesOf isBytes isHex same unhex hexWord
+bytes-read-back [] h = refl
+bytes-read-back (b ∷ bs) h =
+    rw (word-some (b ∷ bs) (omega arith), of-bytes (hex (b ∷ bs)) (hex-is-bytes (b ∷ bs) h (omega arith))) (unhex-hex (b ∷ bs) h)

@@ -1,6 +1,6 @@
 use mathlib.Core.Path.{ap}
 use lib.ListN.{length}
-use Rattle.sheet.proofs.Texts.{decimal-one, decimal-two, decimal-three}
+use Rattle.text.proofs.Digits.{decimal-one, decimal-two, decimal-three}
 use borrow.Author.Needs.{needs}
 use native.Mathlib.Omega.{arith}
 use Rattle.sheet.proofs.put_decimal.Statement.{statement}
