@@ -1,4 +1,4 @@
-// The kinds of lines: a row for each, and the function that answers it.
+// The lines: a row for each, its name and the signature of its words, and the function that answers it.
 ghost use Prim.Native.Nat.{_≤_};
 ghost use lib.ListN.{length};
 use crate::boxes;
@@ -10,78 +10,45 @@ use crate::streams;
 use crate::volumes;
 use modes::Direction;
 
-pub enum Kind {
-    Box,
-    Write,
-    Auxiliary,
-    Lock,
-    Open,
-    Stream,
-    Record,
-    Issuer,
-    EmptyVolume,
-    CheckVolume,
-    VolumeRecord,
-    AddRecord,
-    Dispose,
-    Malformed,
+// The row that a line is of, counted from 0; as many as there are if it is of none.
+fn find(line: &[u8], rows: &[u8]) -> usize {
+    let mut i = 0;
+    let mut at = 0;
+    while at < rows.len() {
+        let row = text::word_at(rows, at, b'\n');
+        let from = row.start;
+        let end = row.end;
+        at = end + 1;
+        if line::fits(line, &rows[from..end]) {
+            return i;
+        }
+        i += 1;
+    }
+    i
 }
 
-// The rows.
-pub(crate) fn kind_of(line: &[u8]) -> Kind {
-    if line::fits(line, b"box bb") {
-        return Kind::Box;
-    }
-    if line::fits(line, b"write fooooossr") {
-        return Kind::Write;
-    }
-    if line::fits(line, b"aux bbnb") {
-        return Kind::Auxiliary;
-    }
-    if line::fits(line, b"lock bbbbb") {
-        return Kind::Lock;
-    }
-    if line::fits(line, b"open bbbbb") {
-        return Kind::Open;
-    }
-    if line::fits(line, b"stream dbbbbn c") {
-        return Kind::Stream;
-    }
-    if line::fits(line, b"record dfopoossnnensssn c") {
-        return Kind::Record;
-    }
-    if line::fits(line, b"issuer b n") {
-        return Kind::Issuer;
-    }
-    if line::fits(line, b"vempty r") {
-        return Kind::EmptyVolume;
-    }
-    if line::fits(line, b"vcheck b") {
-        return Kind::CheckVolume;
-    }
-    if line::fits(line, b"vrecord bn") {
-        return Kind::VolumeRecord;
-    }
-    if line::fits(line, b"vadd bbwwr") {
-        return Kind::AddRecord;
-    }
-    if line::fits(line, b"vdispose bnw") {
-        return Kind::Dispose;
-    }
-    Kind::Malformed
+// How many rows there are.
+pub const ROWS: usize = 13;
+
+// The row of a line, ROWS if it is malformed.
+pub(crate) fn row_of(line: &[u8]) -> usize {
+    find(
+        line,
+        b"box bb\nwrite fooooossr\naux bbnb\nlock bbbbb\nopen bbbbb\nstream dbbbbn c\nrecord dfopoossnnensssn c\nissuer b n\nvempty r\nvcheck b\nvrecord bn\nvadd bbwwr\nvdispose bnw",
+    )
 }
 
 // Answers a line.
-pub(crate) fn answer(kind: Kind, line: &[u8], out: &mut [u8], at: usize) -> usize {
+pub(crate) fn answer(row: usize, line: &[u8], out: &mut [u8], at: usize) -> usize {
     let mut bytes = [0u8; line::BYTES];
     let mut lent = [0u8; line::BYTES];
     let ends = line::decode(line, &mut bytes);
-    answer_by(kind, line, &bytes, ends, &mut lent, out, at)
+    answer_by(row, line, &bytes, ends, &mut lent, out, at)
 }
 
-// By its kind. The bytes of its words are at hand, and what a call writes goes to `lent`.
+// By its row. The bytes of its words are at hand, and what a call writes goes to `lent`.
 fn answer_by(
-    kind: Kind,
+    row: usize,
     line: &[u8],
     bytes: &[u8],
     ends: Ends,
@@ -91,20 +58,20 @@ fn answer_by(
 ) -> usize
     requires { ⌜ 65536 ≤ length (now lent) ⌝ }
 {
-    match kind {
-        Kind::Box => boxes::read(bytes, ends, out, at),
-        Kind::Write => boxes::write(line, bytes, ends, lent, out, at),
-        Kind::Auxiliary => samples::auxiliary(line, bytes, ends, out, at),
-        Kind::Lock => samples::whole(Direction::Lock, line, bytes, ends, lent, out, at),
-        Kind::Open => samples::whole(Direction::Open, line, bytes, ends, lent, out, at),
-        Kind::Stream => streams::started(line, bytes, ends, lent, out, at),
-        Kind::Record => streams::given(line, bytes, ends, lent, out, at),
-        Kind::Issuer => issuers::grants(line, bytes, ends, out, at),
-        Kind::EmptyVolume => volumes::empty(line, lent, out, at),
-        Kind::CheckVolume => volumes::check(bytes, ends, out, at),
-        Kind::VolumeRecord => volumes::record(line, bytes, ends, out, at),
-        Kind::AddRecord => volumes::add(line, bytes, ends, lent, out, at),
-        Kind::Dispose => volumes::dispose(line, bytes, ends, out, at),
-        Kind::Malformed => text::put(b"malformed", out, at),
+    match row {
+        0 => boxes::read(bytes, ends, out, at),
+        1 => boxes::write(line, bytes, ends, lent, out, at),
+        2 => samples::auxiliary(line, bytes, ends, out, at),
+        3 => samples::whole(Direction::Lock, line, bytes, ends, lent, out, at),
+        4 => samples::whole(Direction::Open, line, bytes, ends, lent, out, at),
+        5 => streams::started(line, bytes, ends, lent, out, at),
+        6 => streams::given(line, bytes, ends, lent, out, at),
+        7 => issuers::grants(line, bytes, ends, out, at),
+        8 => volumes::empty(line, lent, out, at),
+        9 => volumes::check(bytes, ends, out, at),
+        10 => volumes::record(line, bytes, ends, out, at),
+        11 => volumes::add(line, bytes, ends, lent, out, at),
+        12 => volumes::dispose(line, bytes, ends, out, at),
+        _ => text::put(b"malformed", out, at),
     }
 }

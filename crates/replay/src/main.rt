@@ -9,7 +9,6 @@ mod samples;
 mod streams;
 mod volumes;
 
-use calls::Kind;
 use libc::STDERR_FILENO;
 use libc::STDIN_FILENO;
 use output::Buffer;
@@ -44,25 +43,22 @@ fn say(text: &[u8]) {
     io::write_all(STDERR_FILENO, b"\n");
 }
 
-// What the line held asks for.
-fn kind_of(line: &[u8], held: usize) -> Kind {
+// The row of the line held.
+fn row_of(line: &[u8], held: usize) -> usize {
     if line.len() < held {
-        return Kind::Malformed;
+        return calls::ROWS;
     }
-    calls::kind_of(&line[0..held])
+    calls::row_of(&line[0..held])
 }
 
-fn count(kind: Kind, before: u64) -> u64 {
-    match kind {
-        Kind::Malformed => {
-            if before < u64::MAX {
-                before + 1
-            } else {
-                before
-            }
+// One more, if a line was malformed.
+fn count(row: usize, before: u64) -> u64 {
+    if row == calls::ROWS {
+        if before < u64::MAX {
+            return before + 1;
         }
-        _ => before,
     }
+    before
 }
 
 // Answers the line held; an empty line by an empty line.
@@ -75,13 +71,13 @@ fn answer(line: &[u8], before: State, out: &mut Buffer) -> State {
             malformed: before.malformed,
         };
     }
-    let kind = kind_of(line, before.held);
+    let row = row_of(line, before.held);
     let text = line::part(line, 0, before.held);
-    let end = calls::answer(kind, text, out, at);
+    let end = calls::answer(row, text, out, at);
     State {
         held: 0,
         end: output::byte(b'\n', out, end),
-        malformed: count(kind, before.malformed),
+        malformed: count(row, before.malformed),
     }
 }
 
