@@ -114,7 +114,7 @@ fn last(state: State, line: &Line, out: &mut Buffer) -> State {
     }
 }
 
-// One reading of the input: whether there is more, and what it comes to.
+// One reading of the input: whether there is more, and what it comes to. A line that is cut off by a failure is not answered.
 struct Turn {
     more: bool,
     state: State,
@@ -125,7 +125,14 @@ fn take_turn(state: State, line: &mut Line, out: &mut Buffer) -> Turn {
     let got = libc::read(STDIN_FILENO, &mut input);
     if got < 0 {
         say(b"cannot read standard input");
-        return Turn { more: false, state };
+        return Turn {
+            more: false,
+            state: State {
+                held: 0,
+                end: state.end,
+                malformed: state.malformed,
+            },
+        };
     }
     let count = io::count(got, &input);
     if count == 0 {

@@ -176,20 +176,33 @@ fn start(line: &[u8], bytes: &[u8], ends: Ends) -> Started {
     )
 }
 
+// `CLEAR:PROTECTED`.
+struct Entry {
+    clear: u16,
+    protected: u32,
+}
+
+impl Entry {
+    fn read(word: &[u8]) -> Entry {
+        Entry {
+            clear: text::number_at(word, 0, b':', 65535) as u16,
+            protected: text::number_at(word, 1, b':', 4294967295) as u32,
+        }
+    }
+}
+
 // All entries of a map, joined by commas.
 fn map(count: usize, word: &[u8]) -> SubsampleMap {
     let mut clear = [0u16; SubsampleMap::LIMIT];
     let mut protected = [0u32; SubsampleMap::LIMIT];
     let mut at = 0;
     for i in 0..SubsampleMap::LIMIT {
-        let entry = text::word_at(word, at, b',');
-        let from = entry.start;
-        let end = entry.end;
-        clear[i] = text::number_at(&word[from..end], 0, b':', 65535) as u16;
-        protected[i] = text::read_number(
-            text::word(&word[from..end], 1, b':'),
-            4294967295,
-        ).value as u32;
+        let found = text::word_at(word, at, b',');
+        let from = found.start;
+        let end = found.end;
+        let entry = Entry::read(&word[from..end]);
+        clear[i] = entry.clear;
+        protected[i] = entry.protected;
         at = end + 1;
     }
     SubsampleMap {
@@ -199,34 +212,30 @@ fn map(count: usize, word: &[u8]) -> SubsampleMap {
     }
 }
 
-// A record, the words 1 to 16 of a line.
-fn record(line: &[u8], bytes: &[u8], ends: Ends) -> Stream {
+// What was declared: the words 1 to 11 of a line, and the key, word 13.
+fn declared(line: &[u8], bytes: &[u8], ends: Ends) -> Declared {
     let pattern = text::word(line, 4, b' ');
-    Stream {
-        declared: Declared {
-            direction: line::direction(line),
-            parameters: boxes::parameters(
-                line,
-                bytes,
-                ends,
-                line::bytes(bytes, ends, 2),
-                text::number_at(line, 3, b' ', 255) as u8,
-                text::number_at(pattern, 0, b':', 255) as u8,
-                text::number_at(pattern, 1, b':', 255) as u8,
-            ),
-            length: text::number_at(line, 9, b' ', u64::MAX) as usize,
-            map: map(
-                text::number_at(line, 10, b' ', u64::MAX) as usize,
-                text::word(line, 11, b' '),
-            ),
-            key: Key::new(octets::sixteen(line::bytes(bytes, ends, 13))),
-        },
-        progress: Progress {
-            position: text::number_at(line, 12, b' ', u64::MAX) as usize,
-            block: octets::sixteen(line::bytes(bytes, ends, 14)),
-            held: octets::sixteen(line::bytes(bytes, ends, 15)),
-            held_count: text::number_at(line, 16, b' ', u64::MAX) as usize,
-        },
+    let code = line::bytes(bytes, ends, 2);
+    let version = text::number_at(line, 3, b' ', 255) as u8;
+    let crypt = text::number_at(pattern, 0, b':', 255) as u8;
+    let skip = text::number_at(pattern, 1, b':', 255) as u8;
+    let count = text::number_at(line, 10, b' ', u64::MAX) as usize;
+    Declared {
+        direction: line::direction(line),
+        parameters: boxes::parameters(line, bytes, ends, code, version, crypt, skip),
+        length: text::number_at(line, 9, b' ', u64::MAX) as usize,
+        map: map(count, text::word(line, 11, b' ')),
+        key: Key::new(octets::sixteen(line::bytes(bytes, ends, 13))),
+    }
+}
+
+// What moves: the words 12 and 14 to 16.
+fn progress(line: &[u8], bytes: &[u8], ends: Ends) -> Progress {
+    Progress {
+        position: text::number_at(line, 12, b' ', u64::MAX) as usize,
+        block: octets::sixteen(line::bytes(bytes, ends, 14)),
+        held: octets::sixteen(line::bytes(bytes, ends, 15)),
+        held_count: text::number_at(line, 16, b' ', u64::MAX) as usize,
     }
 }
 
@@ -241,7 +250,10 @@ pub(crate) fn given(
 ) -> usize
     requires { ⌜ 65536 ≤ length (now lent) ⌝ }
 {
-    let stream = record(line, bytes, ends);
+    let stream = Stream {
+        declared: declared(line, bytes, ends),
+        progress: progress(line, bytes, ends),
+    };
     replies(
         stream,
         line,

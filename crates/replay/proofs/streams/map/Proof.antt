@@ -13,12 +13,11 @@ abbrev μ-loop : tie.MeasureT-loop
 μ-loop count word clear₀ protected₀ at₀ i₀ clear protected at i = limit - i
 
 loop-again : tie.Need-loop-again Inv-loop μ-loop
-loop-again c = (simp length-set (c .before .before .before .before .before .before .before .before .loop .inv .0), simp length-set (c .before .before .before .before .before .before .before .before .loop .inv .1))
+loop-again c = (simp length-set (c .before .before .before .before .loop .inv .0), simp length-set (c .before .before .before .before .loop .inv .1))
 
 pub map-spec : {M : Type 1} → statement M
 map-spec =
     tie.close
     (tie.spec Inv-loop μ-loop (search needs) (search needs) (search needs) (search needs) (search needs) (search needs)
-    (search needs) (search needs) (search needs) (search needs) (search needs) (search needs) (search needs)
     (search needs) (search needs) (search needs) (search needs) (search needs) (search needs) (search needs)
     loop-again (search needs))
