@@ -21,29 +21,33 @@ loop-holds c = (omega arith, omega arith, (λ k h. omega arith), refl)
 
 returns : tie.Need-returns Inv-loop μ-loop
 returns c =
-    let a = c .before .before .before .before .before .before .args in
-    (sym (digits-not (a .word .now) (a .largest) (below-not 10 (a .word .now) (c .before .before .before .before .loop .i) (omega arith) (omega (arith, c .before .value .ensures)))), omega arith)
+    let turn = c .before .before .before .before in
+    let a = turn .before .before .args in
+    (sym (digits-not (a .word .now) (a .largest) (below-not 10 (a .word .now) (turn .loop .i) (omega arith) (omega (arith, c .before .value .ensures)))), omega arith)
 
 returns-2 : tie.Need-returns-2 Inv-loop μ-loop
 returns-2 c =
-    let a = c .before .before .before .before .before .before .before .args in
-    let l = c .before .before .before .before .before .loop in
+    let turn = c .before .before .before .before .before in
+    let a = turn .before .before .args in
+    let l = turn .loop in
     let next = l .sum * 10 + spec.value (getD (a .word .now) (l .i) 0) in
     let g = from-grows next (drop (l .i + 1) (a .word .now)) in
     (sym (digits-above (a .word .now) (a .largest) (omega (arith, g, from-next (l .sum) (a .word .now) (l .i) (omega arith), l .inv .3, c .before .before .value .ensures))), omega arith)
 
 returns-3 : tie.Need-returns-3 Inv-loop μ-loop
 returns-3 c =
-    let a = c .before .before .before .before .before .before .before .before .args in
-    let l = c .before .before .before .before .before .before .loop in
+    let turn = c .before .before .before .before .before .before in
+    let a = turn .before .before .args in
+    let l = turn .loop in
     let next = l .sum * 10 + spec.value (getD (a .word .now) (l .i) 0) in
     let g = from-grows next (drop (l .i + 1) (a .word .now)) in
     (sym (digits-above (a .word .now) (a .largest) (omega (arith, g, from-next (l .sum) (a .word .now) (l .i) (omega arith), l .inv .3, c .before .before .before .value .ensures))), omega arith)
 
 loop-again : tie.Need-loop-again Inv-loop μ-loop
 loop-again c =
-    let a = c .before .before .before .before .before .before .before .before .args in
-    let l = c .before .before .before .before .before .before .loop in (
+    let turn = c .before .before .before .before .before .before in
+    let a = turn .before .before .args in
+    let l = turn .loop in (
       omega arith,
       omega arith,
       below-more _ _ (l .inv .2) (omega (arith, c .before .before .before .value .ensures)),

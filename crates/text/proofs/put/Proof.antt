@@ -18,8 +18,9 @@ returns-2 c =
 
 returns-3 : tie.Need-returns-3
 returns-3 c =
-    let a = c .before .before .before .before .before .before .before .before .args in
-    (c .before .before .copy .ensures, sym (end-fits (a .out .now) (a .at) (a .text .now) (omega arith)))
+    let copied = c .before .before in
+    let a = copied .before .before .before .before .before .before .args in
+    (copied .copy .ensures, sym (end-fits (a .out .now) (a .at) (a .text .now) (omega arith)))
 
 pub put-spec : {M : Type 1} → statement M
 put-spec =

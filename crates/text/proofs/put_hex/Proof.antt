@@ -8,7 +8,10 @@ use Rattle.text.proofs.put_hex.Statement.{statement}
 use Rattle.text.proofs.put_hex.Tie as tie
 
 returns : tie.Need-returns
-returns c = rw (word-none (c .before .before .before .before .before .before .before .before .args .s .now) (omega arith)) (c .before .before .put .ensures)
+returns c =
+    let put = c .before .before in
+    let a = put .before .before .before .before .before .before .args in
+    rw (word-none (a .s .now) (omega arith)) (put .put .ensures)
 
 returns-2 : tie.Need-returns-2
 returns-2 c =
@@ -28,7 +31,8 @@ returns-3 c =
 
 returns-4 : tie.Need-returns-4
 returns-4 c =
-    let a = c .before .before .before .before .before .before .before .before .before .args in
+    let put = c .before .before .before .before in
+    let a = put .before .before .before .before .before .args in
     let s = a .s .now in
     let n = hex-length s in
     rw (word-some s (omega arith)) (c .before .before .put-pairs .ensures, rw (← n) (sym (end-fits (a .out .now) (a .at) (spec.hex s) (omega (arith, n)))))

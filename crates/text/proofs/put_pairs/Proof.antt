@@ -26,8 +26,9 @@ slice-write-out-2 c = simp length-set (omega arith)
 
 loop-again : tie.Need-loop-again Inv-loop μ-loop
 loop-again c =
-    let a = c .before .before .before .before .before .before .before .before .args in
-    let l = c .before .before .before .before .before .loop in (
+    let turn = c .before .before .before .before .before in
+    let a = turn .before .before .before .args in
+    let l = turn .loop in (
       omega arith,
       simp length-set (l .inv .1),
       rw (l .inv .2, c .before .before .digit .ensures, c .digit2 .ensures) (paste-pair (a .out .now) (a .s .now) (a .at) (l .i) (omega arith) (omega arith)),

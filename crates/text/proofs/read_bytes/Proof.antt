@@ -24,10 +24,11 @@ returns-2 c =
 
 returns-3 : tie.Need-returns-3
 returns-3 c =
-    let a = c .before .before .before .before .before .before .args in
+    let tried = c .before .before .before in
+    let a = tried .before .before .before .args in
     let b = spec.unhex (a .word .now) in
     let n = unhex-length (a .word .now) in
-    rw (of-bytes (a .word .now) (sym (c .before .before .before .is-bytes .ensures) ∙ not-false _ (c .before .before .if1 .left)))
+    rw (of-bytes (a .word .now) (sym (tried .is-bytes .ensures) ∙ not-false _ (c .before .before .if1 .left)))
     (sym (placed-not (a .out .now) (a .at) b (omega (arith, n))), sym (end-not (a .out .now) (a .at) b (omega (arith, n))))
 
 read-pairs-requires : tie.Need-read-pairs-requires
@@ -35,11 +36,14 @@ read-pairs-requires c κs = (omega arith, sym (c .before .before .before .before
 
 returns-4 : tie.Need-returns-4
 returns-4 c =
-    let a = c .before .before .before .before .before .before .before .before .before .before .args in
+    let read = c .before .before in
+    let accepted = read .before .before .before .before in
+    let tried = accepted .before in
+    let a = tried .before .before .before .args in
     let b = spec.unhex (a .word .now) in
     let n = unhex-length (a .word .now) in
-    rw (of-bytes (a .word .now) (sym (c .before .before .before .before .before .before .before .is-bytes .ensures) ∙ not-false _ (c .before .before .before .before .before .before .if1 .left)))
-    (c .before .before .read-pairs .ensures, rw (← n) (sym (end-fits (a .out .now) (a .at) b (omega (arith, n)))))
+    rw (of-bytes (a .word .now) (sym (tried .is-bytes .ensures) ∙ not-false _ (accepted .if1 .left)))
+    (read .read-pairs .ensures, rw (← n) (sym (end-fits (a .out .now) (a .at) b (omega (arith, n)))))
 
 pub read-bytes-spec : {M : Type 1} → statement M
 read-bytes-spec =

@@ -24,21 +24,24 @@ loop-holds c =
 
 mul-out : tie.Need-mul-out Inv-loop μ-loop
 mul-out c =
-    let a = c .before .before .before .before .before .before .args in
-    let b = pair-below (a .word .now) (c .before .before .before .before .before .before .pre .1) (2 * c .before .before .before .loop .i) (omega arith) (omega arith) in
+    let turn = c .before .before .before in
+    let a = turn .before .before .before .args in
+    let b = pair-below (a .word .now) (turn .before .before .before .pre .1) (2 * turn .loop .i) (omega arith) (omega arith) in
     omega (arith, b, c .value .ensures)
 
 add-out : tie.Need-add-out Inv-loop μ-loop
 add-out c =
-    let a = c .before .before .before .before .before .before .before .before .args in
-    let b = pair-below (a .word .now) (c .before .before .before .before .before .before .before .before .pre .1) (2 * c .before .before .before .before .before .loop .i) (omega arith) (omega arith) in
-    let d = pair-below (a .word .now) (c .before .before .before .before .before .before .before .before .pre .1) (2 * c .before .before .before .before .before .loop .i + 1) (omega arith) (omega arith) in
+    let turn = c .before .before .before .before .before in
+    let a = turn .before .before .before .args in
+    let b = pair-below (a .word .now) (turn .before .before .before .pre .1) (2 * turn .loop .i) (omega arith) (omega arith) in
+    let d = pair-below (a .word .now) (turn .before .before .before .pre .1) (2 * turn .loop .i + 1) (omega arith) (omega arith) in
     omega (arith, b, d, c .before .before .value .ensures, c .value2 .ensures)
 
 loop-again : tie.Need-loop-again Inv-loop μ-loop
 loop-again c =
-    let a = c .before .before .before .before .before .before .before .before .args in
-    let l = c .before .before .before .before .before .loop in
+    let turn = c .before .before .before .before .before in
+    let a = turn .before .before .before .args in
+    let l = turn .loop in
     let n = unhex-length (a .word .now) in (
       omega arith,
       simp length-set (l .inv .1),

@@ -12,7 +12,10 @@ abbrev μ-loop : tie.MeasureT-loop
 μ-loop line bytes₀ ends₀ at₀ end₀ i₀ bytes ends at end i = 17 - i
 
 loop-again : tie.Need-loop-again Inv-loop μ-loop
-loop-again c = (search needs, simp length-set (c .before .before .before .before .before .before .before .loop .inv .1))
+loop-again c =
+    let found = c .before .before .before .before .before in
+    let turn = found .before .before in
+    (search needs, simp length-set (turn .loop .inv .1))
 
 pub decode-spec : {M : Type 1} → statement M
 decode-spec =

@@ -7,8 +7,10 @@ use Rattle.replay.proofs.samples.whole.Tie as tie
 
 part-transform-end : tie.Need-part-transform-end
 part-transform-end c =
-    let a = c .before .before .before .before .before .before .before .before .before .args in
-    omega (arith, c .before .before .read-bytes .ensures .1, end-inside (a .lent .now) 0 (bytesOf (c .before .before .before .before .word .result .now)) (omega arith))
+    let read = c .before .before in
+    let found = read .before .before in
+    let a = found .before .before .before .before .before .args in
+    omega (arith, read .read-bytes .ensures .1, end-inside (a .lent .now) 0 (bytesOf (found .word .result .now)) (omega arith))
 
 pub whole-spec : {M : Type 1} → statement M
 whole-spec =
