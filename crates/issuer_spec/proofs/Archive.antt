@@ -1,10 +1,9 @@
 -- Samples locked with start vectors of one issuer share no counter block.
-use mathlib.Core.Bool.{false, and-false}
+use mathlib.Core.Bool.{false}
 use mathlib.Core.List.{List, []}
 use mathlib.Core.Path.{_≡_, _∙_}
 use Prim.Native.Nat.{ℕ, _+_, _/_, _≤_, _<_}
 use native.Mathlib.Omega.{arith}
-use lib.Dec.{eqb}
 use lib.ListN.{length, take, replicate}
 use lib.Seq.{take-at, take-all}
 use borrow.Author.Tests.{le-ltb, ne-eqb}
@@ -75,9 +74,10 @@ filled-sixteen f v l =
     let n = vector-length f l Sixteen v in
     rw (take-all 16 (vector Sixteen f v) (omega arith)) (filled-all 16 (vector Sixteen f v) n)
 
--- Auxiliary data that begins with a granted start vector, as many bytes of it as the issuer was started from, has that IV.
+-- Auxiliary data of a protected track that begins with a granted start vector, as many bytes of it as the issuer was started from, has
+-- that IV.
 module _ (bytes counts : List ℕ) (k : ℕ) (a : grantAt (start bytes .issuer) counts k .answer ≡ 0) (x : Inputs)
-    (s : parametersOf x .«iv_size» ≡ length bytes)
+    (o : parametersOf x .protected ≡ 1) (s : parametersOf x .«iv_size» ≡ length bytes)
     (e : take (length bytes) (x .auxiliary) ≡ take (length bytes) (grantAt (start bytes .issuer) counts k .vector .0)) where
   abbrev i : Issuer
   i = start bytes .issuer
@@ -99,4 +99,4 @@ module _ (bytes counts : List ℕ) (k : ℕ) (a : grantAt (start bytes .issuer) 
   iv-handed-on =
       let g = granted-vector (begun bytes) in
       let z : length bytes ≡ 0 → ⊥ = λ n. omega arith in
-      rw (s, ne-eqb (length bytes) 0 z, and-false (eqb (parametersOf x .protected) 1), e) (g .0)
+      rw (o, s, ne-eqb (length bytes) 0 z, e) (g .0)

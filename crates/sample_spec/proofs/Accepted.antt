@@ -19,7 +19,7 @@ use Rattle.track_spec.specs.Track.{known, hasConstant, allowed, fieldsFrom, fie
 use Rattle.track_spec.proofs.Fields.{constant-length, constant-bytes}
 use Rattle.track_spec.proofs.RoundTrip.{accepted}
 use Rattle.subsample_spec.specs.declared.SubsampleMap.{SubsampleMap}
-use Rattle.subsample_spec.specs.Auxiliary.{limit, longest, mapRows, mapRead, ivRead, auxiliaryRows}
+use Rattle.subsample_spec.specs.Auxiliary.{limit, longest, mapRows, mapRead, ivLength, ivRead, auxiliaryRows}
 use Rattle.scheme.specs.Layout.{schemeOf, patternOf, isCiphered, total}
 use Rattle.scheme.specs.Part.{entriesOf, ciphered, fits, transformed}
 use Rattle.scheme.proofs.Pieces.{Sized}
@@ -42,7 +42,7 @@ module _ (i : Inputs) where
   iv-length = go (hasConstant (parametersOf i .protected) (parametersOf i .«iv_size»))
     where
       go : (t : Bool)
-          → length (cond t (parametersOf i .«constant_iv» .0) (filled 16 (take (parametersOf i .«iv_size») (i .auxiliary)))) ≡ 16
+          → length (cond t (parametersOf i .«constant_iv» .0) (filled 16 (take (ivLength (parametersOf i)) (i .auxiliary)))) ≡ 16
       go true = constant-of
       go false = filled-length 16 _
 
@@ -56,11 +56,11 @@ module _ (i : Inputs) where
     iv-bytes = go (hasConstant (parametersOf i .protected) (parametersOf i .«iv_size»))
       where
         go : (t : Bool)
-            → Bytes 16 (cond t (parametersOf i .«constant_iv» .0) (filled 16 (take (parametersOf i .«iv_size») (i .auxiliary))))
+            → Bytes 16 (cond t (parametersOf i .«constant_iv» .0) (filled 16 (take (ivLength (parametersOf i)) (i .auxiliary))))
         go true = constant-bytes-of
         go false =
-            filled-bytes 16 (take (parametersOf i .«iv_size») (i .auxiliary))
-            (bytes-take (parametersOf i .«iv_size») (i .auxiliary) (record { size = refl; small = b .auxiliary }) refl .small)
+            filled-bytes 16 (take (ivLength (parametersOf i)) (i .auxiliary))
+            (bytes-take (ivLength (parametersOf i)) (i .auxiliary) (record { size = refl; small = b .auxiliary }) refl .small)
 
 -- ---- What accepted inputs say.
 

@@ -20,6 +20,16 @@ fn wide(x: u8) -> usize
     x as usize
 }
 
+// The bytes of the IV that the data begins with; that of an unprotected track has none.
+fn iv_length(p: Parameters) -> usize
+    ensures { λ r. ⌜ r ≡ spec.ivLength p ⌝ }
+{
+    if p.protected != 1 {
+        return 0;
+    }
+    wide(p.iv_size)
+}
+
 // Whether something follows the IV of a protected track.
 fn written(p: Parameters, auxiliary: &[u8]) -> bool
     ensures { λ r. ⌜ r ≡ spec.written p (now (auxiliary .entry)) ⌝ }
@@ -47,7 +57,7 @@ fn bad_size(p: Parameters, auxiliary: &[u8]) -> bool
 {
     let iv = wide(p.iv_size);
     if !written(p, auxiliary) {
-        return auxiliary.len() != iv;
+        return auxiliary.len() != iv_length(p);
     }
     if auxiliary.len() < iv + 2 {
         return true;
@@ -109,16 +119,16 @@ fn refused(answer: u8) -> AuxiliaryRead
     }
 }
 
-// The IV, filled out with zeros; the constant one where the track has one.
+// The IV, filled out with zeros; the constant one where the track has one; zero if it is unprotected.
 fn read_iv(p: Parameters, auxiliary: &[u8]) -> [u8; 16]
-    requires { ⌜ p .«iv_size» ≤ length (now auxiliary) ⌝ }
+    requires { ⌜ spec.ivLength p ≤ length (now auxiliary) ⌝ }
     ensures { λ r. ⌜ r ≡ spec.ivRead p (now (auxiliary .entry)) ⌝ }
 {
     let iv = p.constant_iv;
     if track::has_constant(p.protected, p.iv_size) {
         return iv.bytes();
     }
-    let size = wide(p.iv_size);
+    let size = iv_length(p);
     octets::sixteen(&auxiliary[0..size])
 }
 

@@ -9,20 +9,22 @@ use lib.ListN.{length}
 use borrow.Author.Tests.{ltb-true, eqb-true, eq-eqb, ne-eqb, not-false}
 use Rattle.octets.specs.Answers.{answer}
 use Rattle.octets.proofs.Answers.{join-done, join-refused}
-use Rattle.octets.proofs.Tests.{&&-right}
+use Rattle.octets.proofs.Tests.{&&-left, &&-right}
 use Rattle.track_spec.specs.declared.Parameters.{Parameters}
 use Rattle.track_spec.specs.Track.{zeros, fields, readRows, readBox}
 use Rattle.track_spec.proofs.Checking.{read-refusals}
-use Rattle.subsample_spec.specs.Auxiliary.{emptyMap, written, badSize, auxiliaryRows, handedOut, readUnder, readAuxiliary}
+use Rattle.subsample_spec.specs.Auxiliary.{emptyMap, ivLength, written, badSize, auxiliaryRows, handedOut, readUnder, readAuxiliary}
 
 -- data of a right size has the IV
-pub size-iv : (p : Parameters) (aux : List ℕ) → badSize p aux ≡ false → p .«iv_size» ≤ length aux
+pub size-iv : (p : Parameters) (aux : List ℕ) → badSize p aux ≡ false → ivLength p ≤ length aux
 unfolding badSize
 size-iv p aux h = go (written p aux) refl
   where
-    go : (t : Bool) → written p aux ≡ t → p .«iv_size» ≤ length aux
-    go true e = omega (arith, ltb-true (p .«iv_size») (length aux) (&&-right (eqb (p .protected) 1) _ e))
-    go false e = omega (arith, eqb-true (length aux) (p .«iv_size») (not-false _ (rw e at h)))
+    go : (t : Bool) → written p aux ≡ t → ivLength p ≤ length aux
+    go true e =
+        rw (&&-left (eqb (p .protected) 1) _ e)
+        (omega (arith, ltb-true (p .«iv_size») (length aux) (&&-right (eqb (p .protected) 1) _ e)))
+    go false e = omega (arith, eqb-true (length aux) (ivLength p) (not-false _ (rw e at h)))
 
 -- the public reader: a refused box decides, and otherwise the data under the box's parameters
 module _ (code box aux : List ℕ) (n : ℕ) where

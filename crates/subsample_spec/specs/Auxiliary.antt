@@ -58,6 +58,10 @@ mapRows code m n =
 
 -- ---- The auxiliary data under parameters.
 
+-- The bytes of the IV that the data begins with; that of an unprotected track has none.
+abbrev pub ivLength : Parameters → ℕ
+ivLength p = cond (eqb (p .protected) 1) (p .«iv_size») 0
+
 -- Entries are written: something follows the IV of a protected track.
 abbrev pub written : Parameters → List ℕ → Bool
 written p aux = eqb (p .protected) 1 && ltb (p .«iv_size») (length aux)
@@ -66,13 +70,14 @@ written p aux = eqb (p .protected) 1 && ltb (p .«iv_size») (length aux)
 abbrev pub countWritten : Parameters → List ℕ → ℕ
 countWritten p aux = number 2 aux (p .«iv_size»)
 
--- 8: the size isn't that of the IV alone, or of the IV, the count and the entries; or a count of 0.
+-- 8: the size isn't that of the IV alone, or of the IV, the count and the entries; or a count of 0. For an unprotected track the
+-- data is empty.
 unfoldable pub badSize : Parameters → List ℕ → Bool
 badSize p aux =
     cond (written p aux)
     (ltb (length aux) (p .«iv_size» + 2) || eqb (countWritten p aux) 0
     || not (eqb (length aux) (p .«iv_size» + 2 + 6 * countWritten p aux)))
-    (not (eqb (length aux) (p .«iv_size»)))
+    (not (eqb (length aux) (ivLength p)))
 
 -- The entries written and their count, 0 if none; unused places are zero.
 unfoldable pub entryCount : Parameters → List ℕ → ℕ
@@ -86,9 +91,9 @@ mapRead p aux =
       count = entryCount p aux;
     }
 
--- The IV filled out with zeros; the constant one where the track has one.
+-- The IV filled out with zeros; the constant one where the track has one; zero if it is unprotected.
 unfoldable pub ivRead : Parameters → List ℕ → List ℕ
-ivRead p aux = cond (hasConstant (p .protected) (p .«iv_size»)) (p .«constant_iv» .0) (filled 16 (take (p .«iv_size») aux))
+ivRead p aux = cond (hasConstant (p .protected) (p .«iv_size»)) (p .«constant_iv» .0) (filled 16 (take (ivLength p) aux))
 
 -- 7 to 12, for a sample of n bytes.
 unfoldable pub auxiliaryRows : Parameters → List ℕ → ℕ → List Row

@@ -14,7 +14,7 @@ start c = c .before .before .before
 
 returns : tie.Need-returns
 unfolding badSize
-returns c = rw (sym (c .before .written .ensures) ∙ not-true _ (c .if1 .taken), c .before .before .wide .ensures)
+returns c = rw (sym (c .before .before .written .ensures) ∙ not-true _ (c .before .if1 .taken), c .iv-length .ensures)
 
 returns-2 : tie.Need-returns-2
 unfolding badSize
@@ -44,5 +44,5 @@ returns-4 c =
 pub bad-size-spec : {M : Type 1} → statement M
 bad-size-spec =
     tie.close
-    (tie.spec (search needs) (search needs) returns (search needs) returns-2 (search needs) (search needs) returns-3
+    (tie.spec (search needs) (search needs) (search needs) returns (search needs) returns-2 (search needs) (search needs) returns-3
     (search needs) (search needs) (search needs) returns-4)
