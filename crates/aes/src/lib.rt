@@ -16,18 +16,19 @@ use sbox::SBOX;
 // Four columns of four bytes.
 pub type State = [[u8; 4]; 4];
 
-pub type RoundKeys = [[[u8; 4]; 4]; 11];
+// The keys of the initial addition and of each round.
+pub type RoundKeys = [State; Key::ROUNDS + 1];
 
-pub struct Key(pub [u8; 16]);
+pub struct Key(pub [u8; Key::SIZE]);
 
-pub struct Block(pub [u8; 16]);
+pub struct Block(pub [u8; Block::SIZE]);
 
 impl Key {
     pub const SIZE: usize = 16;
 
     pub const ROUNDS: usize = 10;
 
-    pub fn new(bytes: [u8; 16]) -> Key
+    pub fn new(bytes: [u8; Key::SIZE]) -> Key
         ensures { λ r. ⌜ r .0 ≡ bytes ⌝ }
     {
         Key(bytes)
@@ -45,13 +46,13 @@ impl Key {
 impl Block {
     pub const SIZE: usize = 16;
 
-    pub fn new(bytes: [u8; 16]) -> Block
+    pub fn new(bytes: [u8; Block::SIZE]) -> Block
         ensures { λ r. ⌜ r .0 ≡ bytes ⌝ }
     {
         Block(bytes)
     }
 
-    pub fn bytes(self) -> [u8; 16]
+    pub fn bytes(self) -> [u8; Block::SIZE]
         ensures { λ r. ⌜ r ≡ self .0 ⌝ }
     {
         self.0
@@ -74,7 +75,7 @@ impl Block {
     }
 }
 
-fn load(b: [u8; 16]) -> State
+fn load(b: [u8; Block::SIZE]) -> State
     ensures { λ r. ⌜ r ≡ state.load b ⌝ }
 {
     [
@@ -85,7 +86,7 @@ fn load(b: [u8; 16]) -> State
     ]
 }
 
-fn store(s: State) -> [u8; 16]
+fn store(s: State) -> [u8; Block::SIZE]
     ensures { λ r. ⌜ r ≡ state.store s ⌝ }
 {
     [
@@ -249,7 +250,7 @@ fn next_key(k: State, rcon: u8, table: &[u8; 256]) -> State
     [a, b, c, d]
 }
 
-fn key_expansion(key: [u8; 16]) -> RoundKeys
+fn key_expansion(key: [u8; Key::SIZE]) -> RoundKeys
     ensures { λ r. ⌜ r ≡ schedule.keyExpansion key ⌝ }
 {
     let sbox = SBOX;
