@@ -7,22 +7,23 @@ ghost use Rattle.modes_spec.specs.Modes as spec;
 use aes::Block;
 use aes::RoundKeys;
 pub use modes_spec::Direction;
+pub use modes_spec::ModeBlock;
 
 // One block enciphered, and one deciphered.
-fn enciphered(keys: RoundKeys, bytes: [u8; 16]) -> [u8; 16]
+fn enciphered(keys: RoundKeys, bytes: [u8; Block::SIZE]) -> [u8; Block::SIZE]
     ensures { λ r. ⌜ r ≡ block.encipher keys bytes ⌝ }
 {
     Block::new(bytes).encipher(keys).bytes()
 }
 
-fn deciphered(keys: RoundKeys, bytes: [u8; 16]) -> [u8; 16]
+fn deciphered(keys: RoundKeys, bytes: [u8; Block::SIZE]) -> [u8; Block::SIZE]
     ensures { λ r. ⌜ r ≡ block.decipher keys bytes ⌝ }
 {
     Block::new(bytes).decipher(keys).bytes()
 }
 
 // The counter block n steps on: bytes 8 to 15 are a number that wraps to zero, and bytes 0 to 7 stay.
-fn counter_after(b: [u8; 16], n: u64) -> [u8; 16]
+fn counter_after(b: [u8; Block::SIZE], n: u64) -> [u8; Block::SIZE]
     ensures { λ r. ⌜ r ≡ spec.counterAt b n ⌝ }
 {
     let c = numbers::bytes64(std::num::wrapping_add_u64(numbers::be64(&b, 8), n));
@@ -47,7 +48,7 @@ fn counter_after(b: [u8; 16], n: u64) -> [u8; 16]
 }
 
 // A part's bytes and those of a key stream block from a place on, added.
-fn xor_part(pad: [u8; 16], used: usize, part: &mut [u8])
+fn xor_part(pad: [u8; Block::SIZE], used: usize, part: &mut [u8])
     requires { ⌜ used + length (now part) ≤ 16 ⌝ }
     ensures { λ r. ⌜ now (part .exit) ≡ spec.xors (now (part .entry)) (drop used pad) ⌝ }
 {
@@ -59,29 +60,30 @@ fn xor_part(pad: [u8; 16], used: usize, part: &mut [u8])
 }
 
 // The counter mode over a part that begins `used` bytes into the key stream; answers the counter block that follows it.
-pub fn ctr(keys: RoundKeys, counter: [u8; 16], used: usize, part: &mut [u8]) -> [u8; 16]
-    ensures { λ r. ⌜ (now (part .exit) ≡ spec.ctr (block.encipher keys) counter used (now (part .entry)))
-        × (r ≡ spec.counterAt counter ((used + length (now (part .entry))) / 16)) ⌝ }
+pub fn ctr(keys: RoundKeys, counter: ModeBlock, used: usize, part: &mut [u8]) -> ModeBlock
+    ensures { λ r. ⌜ (now (part .exit) ≡ spec.ctr (block.encipher keys) (counter .0) used (now (part .entry)))
+        × (r .0 ≡ spec.counterAt (counter .0) ((used + length (now (part .entry))) / 16)) ⌝ }
 {
-    let from = used % 16;
-    let mut b = counter_after(counter, (used / 16) as u64);
+    let first = counter.0;
+    let from = used % Block::SIZE;
+    let mut b = counter_after(first, (used / Block::SIZE) as u64);
     let mut at = 0;
     while at < part.len() {
-        let skip = (from + at) % 16;
-        let end = at + octets::least(16 - skip, part.len() - at);
+        let skip = (from + at) % Block::SIZE;
+        let end = at + octets::least(Block::SIZE - skip, part.len() - at);
         let pad = enciphered(keys, b);
         xor_part(pad, skip, &mut part[at..end]);
         at = end;
-        if (from + at) % 16 == 0 {
+        if (from + at) % Block::SIZE == 0 {
             let next = counter_after(b, 1);
             b = next;
         }
     }
-    b
+    ModeBlock(b)
 }
 
 // Two blocks added.
-fn xor_blocks(a: [u8; 16], b: [u8; 16]) -> [u8; 16]
+fn xor_blocks(a: [u8; Block::SIZE], b: [u8; Block::SIZE]) -> [u8; Block::SIZE]
     ensures { λ r. ⌜ r ≡ spec.xors a b ⌝ }
 {
     let mut r = a;
@@ -90,7 +92,7 @@ fn xor_blocks(a: [u8; 16], b: [u8; 16]) -> [u8; 16]
 }
 
 // One block locked where it lies; answers its cipher text.
-fn lock_block(keys: RoundKeys, chain: [u8; 16], part: &mut [u8]) -> [u8; 16]
+fn lock_block(keys: RoundKeys, chain: [u8; Block::SIZE], part: &mut [u8]) -> [u8; Block::SIZE]
     requires { ⌜ length (now part) ≡ 16 ⌝ }
     ensures { λ r. ⌜ (now (part .exit) ≡ block.encipher keys (spec.xors (now (part .entry)) chain))
         × (r ≡ block.encipher keys (spec.xors (now (part .entry)) chain)) ⌝ }
@@ -101,7 +103,7 @@ fn lock_block(keys: RoundKeys, chain: [u8; 16], part: &mut [u8]) -> [u8; 16]
 }
 
 // One block opened where it lies; answers its cipher text.
-fn open_block(keys: RoundKeys, chain: [u8; 16], part: &mut [u8]) -> [u8; 16]
+fn open_block(keys: RoundKeys, chain: [u8; Block::SIZE], part: &mut [u8]) -> [u8; Block::SIZE]
     requires { ⌜ length (now part) ≡ 16 ⌝ }
     ensures { λ r. ⌜ (now (part .exit) ≡ spec.xors (block.decipher keys (now (part .entry))) chain) × (r ≡ now (part .entry)) ⌝ }
 {
@@ -112,7 +114,12 @@ fn open_block(keys: RoundKeys, chain: [u8; 16], part: &mut [u8]) -> [u8; 16]
 }
 
 // One block of cipher block chaining where it lies; answers its cipher text.
-fn chain_block(keys: RoundKeys, direction: Direction, chain: [u8; 16], part: &mut [u8]) -> [u8; 16]
+fn chain_block(
+    keys: RoundKeys,
+    direction: Direction,
+    chain: [u8; Block::SIZE],
+    part: &mut [u8],
+) -> [u8; Block::SIZE]
     requires { ⌜ length (now part) ≡ 16 ⌝ }
     ensures { λ r. ⌜ (now (part .exit) ≡ spec.blockOut (block.encipher keys) (block.decipher keys) direction chain (now (part .entry)))
         × (r ≡ spec.blockChain (block.encipher keys) (block.decipher keys) direction chain (now (part .entry))) ⌝ }
@@ -124,17 +131,17 @@ fn chain_block(keys: RoundKeys, direction: Direction, chain: [u8; 16], part: &mu
 }
 
 // Cipher block chaining over every whole block of a part; answers the chain after it.
-pub fn cbc(keys: RoundKeys, direction: Direction, chain: [u8; 16], part: &mut [u8]) -> [u8; 16]
-    ensures { λ r. ⌜ (now (part .exit) ≡ spec.cbc (block.encipher keys) (block.decipher keys) direction chain (now (part .entry)))
-        × (r ≡ spec.chainEnd (block.encipher keys) (block.decipher keys) direction chain (now (part .entry))) ⌝ }
+pub fn cbc(keys: RoundKeys, direction: Direction, chain: ModeBlock, part: &mut [u8]) -> ModeBlock
+    ensures { λ r. ⌜ (now (part .exit) ≡ spec.cbc (block.encipher keys) (block.decipher keys) direction (chain .0) (now (part .entry)))
+        × (r .0 ≡ spec.chainEnd (block.encipher keys) (block.decipher keys) direction (chain .0) (now (part .entry))) ⌝ }
 {
-    let mut c = chain;
+    let mut c = chain.0;
     let mut at = 0;
-    while 16 <= part.len() - at {
-        let end = at + 16;
+    while Block::SIZE <= part.len() - at {
+        let end = at + Block::SIZE;
         let next = chain_block(keys, direction, c, &mut part[at..end]);
         c = next;
         at = end;
     }
-    c
+    ModeBlock(c)
 }

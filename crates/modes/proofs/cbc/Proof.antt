@@ -54,7 +54,7 @@ same-length c = fill-length (c .before .loop .inv .filled)
 returns : tie.Need-returns Inv-loop μ-loop
 returns c =
     let s = c .before .loop .inv in
-    let l : length (c .before .before .before .args .part .now) - c .before .loop .at < 16 = omega (arith, fill-length (s .filled), c .loop-test .left) in
+    let l : length (c .before .before .before .before .args .part .now) - c .before .loop .at < 16 = omega (arith, fill-length (s .filled), c .loop-test .left) in
     (chain-done s l, chain-last s l)
 
 pub cbc-spec : {M : Type 1} → statement M

@@ -22,7 +22,10 @@ Inv-loop keys used part₀ from b₀ at₀ part b at = Streamed (encipher keys) 
 abbrev μ-loop : tie.MeasureT-loop
 μ-loop keys used part₀ from b₀ at₀ part b at = length part₀ - at
 
--- the places: the counter block before the loop, a turn, the bytes that it takes, and these added to the key stream
+-- the places: the start, the counter block before the loop, a turn, the bytes that it takes, and these added to the key stream
+abbrev start : tie.After-counter-after Inv-loop μ-loop → tie.Start Inv-loop μ-loop
+start c = c .before .before .before
+
 abbrev entered : tie.At-loop Inv-loop μ-loop → tie.After-counter-after Inv-loop μ-loop
 entered c = c .before
 
@@ -40,7 +43,7 @@ loop-holds c =
     let b = c .counter-after .result in
     let n : length b ≡ 16 = search needs in
     let f : (i : ℕ) → Fits w8 (getD b i 0) = λ i. search needs in
-    let z : (c .before .before .args .used % 16) / 16 ≡ 0 = omega arith in
+    let z : (start c .args .used % 16) / 16 ≡ 0 = omega arith in
     stream-start _ b _ _ b (rw z (sym (no-step b n (λ i. f i .fits))))
 
 xor-part-requires : tie.Need-xor-part-requires Inv-loop μ-loop
@@ -54,7 +57,7 @@ turned : (c : tie.After-xor-part Inv-loop μ-loop)
     → (let l = turn (taken c) .loop in
     let n : ℕ = taken c .least .result in
     let e = entered (turn (taken c)) in
-    let a = e .before .before .args in
+    let a = start e .args in
     Filled (a .part .now) (putMid (l .at) (l .at + n - l .at) (l .part) (c .xor-part .last .1 .1 .0))
     (ctr (encipher (a .keys)) (e .counter-after .result) (a .used % 16) (take (l .at + n) (a .part .now))) (l .at + n))
 turned c =
@@ -104,16 +107,17 @@ same-length c = fill-length (c .before .loop .inv .filled)
 returns : tie.Need-returns Inv-loop μ-loop
 returns c =
     let s = c .before .loop .inv in
-    let a = c .before .before .before .before .args in
+    let b = c .before .before in
+    let a = b .before .before .before .args in
     let xs : List ℕ = a .part .now in
     let i : ℕ = c .before .loop .at in
     let l : length xs ≡ i = omega (arith, fill-length (s .filled), s .filled .fits) in
-    let k : length (a .counter) ≡ 16 = search needs in
+    let k : length (a .counter .0) ≡ 16 = search needs in
     let q : a .used / 16 * 16 + a .used % 16 ≡ a .used = omega arith in
     let r : a .used / 16 + (a .used % 16 + i) / 16 ≡ (a .used + i) / 16 = omega arith in (
       (rw (take-all i xs (omega arith)) at (fill-all (s .filled) (omega arith)))
-          ∙ rw (c .before .before .counter-after .ensures) (ctr-from (encipher (a .keys)) (a .counter) (omega arith) (a .used / 16) (a .used % 16) xs ∙ rw q),
-      s .block ∙ rw (c .before .before .counter-after .ensures, l) (steps (a .counter) (omega arith) (a .used / 16) ((a .used % 16 + i) / 16) ∙ rw r),
+          ∙ rw (b .counter-after .ensures) (ctr-from (encipher (a .keys)) (a .counter .0) (omega arith) (a .used / 16) (a .used % 16) xs ∙ rw q),
+      s .block ∙ rw (b .counter-after .ensures, l) (steps (a .counter .0) (omega arith) (a .used / 16) ((a .used % 16 + i) / 16) ∙ rw r),
     )
 
 pub ctr-spec : {M : Type 1} → statement M
