@@ -33,8 +33,8 @@ pub fn transform(keys: RoundKeys, inverse: bool, data: &mut [u8])
     ensures { λ r. ⌜ now («data» .exit) ≡ spec.ecb (spec.blockFunction inverse keys) (now («data» .entry)) ⌝ }
 {
     let mut at = 0;
-    while 16 <= data.len() - at {
-        let end = at + 16;
+    while Block::SIZE <= data.len() - at {
+        let end = at + Block::SIZE;
         block(keys, inverse, &mut data[at..end]);
         at = end;
     }

@@ -102,11 +102,11 @@ fn read_map(p: Parameters, count: usize, auxiliary: &[u8]) -> SubsampleMap
     ensures { λ r. ⌜ r ≡ spec.mapRead p (now (auxiliary .entry)) ⌝ }
 {
     let iv = wide(p.iv_size);
-    SubsampleMap {
-        clear: clear_lengths(iv + 2, count, auxiliary),
-        protected: protected_lengths(iv + 4, count, auxiliary),
+    SubsampleMap::new(
+        clear_lengths(iv + 2, count, auxiliary),
+        protected_lengths(iv + 4, count, auxiliary),
         count,
-    }
+    )
 }
 
 fn refused(answer: u8) -> AuxiliaryRead
@@ -115,12 +115,12 @@ fn refused(answer: u8) -> AuxiliaryRead
     AuxiliaryRead {
         answer,
         map: SubsampleMap::empty(),
-        iv: StartVector::new([0; 16]),
+        iv: StartVector::new([0; StartVector::SIZE]),
     }
 }
 
 // The IV, filled out with zeros; the constant one where the track has one; zero if it is unprotected.
-fn read_iv(p: Parameters, auxiliary: &[u8]) -> [u8; 16]
+fn read_iv(p: Parameters, auxiliary: &[u8]) -> [u8; StartVector::SIZE]
     requires { ⌜ spec.ivLength p ≤ length (now auxiliary) ⌝ }
     ensures { λ r. ⌜ r ≡ spec.ivRead p (now (auxiliary .entry)) ⌝ }
 {

@@ -27,7 +27,7 @@ fn ragged_entry(map: SubsampleMap, i: usize) -> bool
     ensures { λ r. ⌜ r ≡ spec.raggedEntry map i ⌝ }
 {
     let protected = map.protected;
-    protected[i] % 16 != 0
+    protected[i] % SubsampleMap::BLOCK != 0
 }
 
 // Both lengths of entry i together.

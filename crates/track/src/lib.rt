@@ -30,7 +30,7 @@ fn constant(at: usize, bytes: &[u8], protected: u8, iv_size: u8) -> StartVector
     if has_constant(protected, iv_size) {
         StartVector::new(octets::sixteen_at(bytes, at))
     } else {
-        StartVector::new([0; 16])
+        StartVector::new([0; StartVector::SIZE])
     }
 }
 
@@ -78,7 +78,7 @@ fn bad_fields(track_box: &[u8], p: Parameters) -> bool
         return true;
     }
     if has_constant(p.protected, p.iv_size) {
-        return octets::byte_at(track_box, 32) != 16;
+        return octets::byte_at(track_box, Parameters::BOX) != Parameters::CONSTANT_IV_SIZE;
     }
     false
 }

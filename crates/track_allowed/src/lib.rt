@@ -4,6 +4,7 @@ ghost use mathlib.Core.Path.{_≡_};
 ghost use Rattle.octets.specs.Answers.{answer};
 ghost use Rattle.track_spec.specs.Track as spec;
 use track_spec::Parameters;
+use track_spec::StartVector;
 use track_spec::refusal;
 
 // Whether a code names one of the four schemes.
@@ -47,10 +48,10 @@ fn a_pattern(crypt: u8, skip: u8) -> bool
     if crypt < 1 {
         return false;
     }
-    if 15 < crypt {
+    if Parameters::MOST_BLOCKS < crypt {
         return false;
     }
-    skip <= 15
+    skip <= Parameters::MOST_BLOCKS
 }
 
 fn eight_or_sixteen(iv_size: u8) -> bool
@@ -103,7 +104,7 @@ pub fn allowed(p: Parameters) -> bool
     if has_constant(p.protected, p.iv_size) {
         return fields;
     }
-    both(octets::same(&iv.bytes(), &[0; 16]), fields)
+    both(octets::same(&iv.bytes(), &[0; StartVector::SIZE]), fields)
 }
 
 // A version above 1, or a pattern in version 0.

@@ -6,21 +6,21 @@ ghost use mathlib.Core.Path.{_≡_};
 ghost use Rattle.track_spec.specs.Track as spec;
 
 // The KID of a track: the name of its key.
-pub struct Kid(pub [u8; 16]);
+pub struct Kid(pub [u8; Kid::SIZE]);
 
 // A start vector of 16 bytes; one of 8 is filled out with zeros.
-pub struct StartVector(pub [u8; 16]);
+pub struct StartVector(pub [u8; StartVector::SIZE]);
 
 impl Kid {
     pub const SIZE: usize = 16;
 
-    pub fn new(bytes: [u8; 16]) -> Kid
+    pub fn new(bytes: [u8; Kid::SIZE]) -> Kid
         ensures { λ r. ⌜ r .0 ≡ bytes ⌝ }
     {
         Kid(bytes)
     }
 
-    pub fn bytes(self) -> [u8; 16]
+    pub fn bytes(self) -> [u8; Kid::SIZE]
         ensures { λ r. ⌜ r ≡ self .0 ⌝ }
     {
         self.0
@@ -30,13 +30,13 @@ impl Kid {
 impl StartVector {
     pub const SIZE: usize = 16;
 
-    pub fn new(bytes: [u8; 16]) -> StartVector
+    pub fn new(bytes: [u8; StartVector::SIZE]) -> StartVector
         ensures { λ r. ⌜ r .0 ≡ bytes ⌝ }
     {
         StartVector(bytes)
     }
 
-    pub fn bytes(self) -> [u8; 16]
+    pub fn bytes(self) -> [u8; StartVector::SIZE]
         ensures { λ r. ⌜ r ≡ self .0 ⌝ }
     {
         self.0
@@ -61,6 +61,12 @@ impl Parameters {
 
     pub const BOX_WITH_CONSTANT_IV: usize = 49;
 
+    // The constant IV size that a box names.
+    pub const CONSTANT_IV_SIZE: u8 = 16;
+
+    // The largest crypt count and the largest skip count.
+    pub const MOST_BLOCKS: u8 = 15;
+
     // Those of an empty unprotected cenc track in version 0, which a refusal hands out.
     pub fn unprotected() -> Parameters
         ensures { λ r. ⌜ r ≡ spec.unprotected ⌝ }
@@ -72,8 +78,8 @@ impl Parameters {
             skip: 0,
             protected: 0,
             iv_size: 0,
-            kid: Kid([0; 16]),
-            constant_iv: StartVector([0; 16]),
+            kid: Kid([0; Kid::SIZE]),
+            constant_iv: StartVector([0; StartVector::SIZE]),
         }
     }
 }

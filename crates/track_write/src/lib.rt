@@ -34,7 +34,7 @@ fn store_constant(iv: StartVector, out: &mut [u8], at: usize)
     requires { ⌜ at + 17 ≤ length (now out) ⌝ }
     ensures { λ r. ⌜ now (out .exit) ≡ placed (now (out .entry)) at (16 ∷ iv .0) ⌝ }
 {
-    octets::copy(&[16], out, at);
+    octets::copy(&[Parameters::CONSTANT_IV_SIZE], out, at);
     octets::copy(&iv.bytes(), out, at + 1);
 }
 

@@ -5,9 +5,11 @@ use Rattle.subsample.proofs.read_map.Tie as tie
 
 returns : tie.Need-returns
 unfolding mapRead
-returns c = rw (c .before .clear-lengths .ensures, c .protected-lengths .ensures, c .before .before .wide .ensures, c .before .before .before .before .pre .0)
+returns c =
+    let l = c .before .before in
+    rw (c .new .ensures, l .clear-lengths .ensures, c .before .protected-lengths .ensures, l .before .wide .ensures, l .before .before .before .pre .0)
 
 pub read-map-spec : {M : Type 1} → statement M
 read-map-spec =
     tie.close
-    (tie.spec (search needs) (search needs) (search needs) (search needs) (search needs) returns)
+    (tie.spec (search needs) (search needs) (search needs) (search needs) (search needs) (search needs) returns)
