@@ -10,6 +10,7 @@ ghost use Rattle.scheme.specs.Held.{heldAt};
 ghost use Rattle.scheme.specs.Part.{protectedEntries, heldUnder};
 ghost use Rattle.scheme.specs.Walk as spec;
 ghost use Rattle.subsample_spec.specs.Auxiliary.{limit};
+use modes_spec::ModeBlock;
 use scheme::Mode;
 use scheme::Pattern;
 use scheme::Scheme;
@@ -32,14 +33,14 @@ pub fn every_byte(scheme: Scheme) -> bool
 fn in_pattern(pattern: Pattern, n: usize, o: usize) -> bool
     ensures { λ r. ⌜ r ≡ inWholeBlock n o && inCryptRun pattern o ⌝ }
 {
-    if n / 16 <= o / 16 {
+    if n / ModeBlock::SIZE <= o / ModeBlock::SIZE {
         return false;
     }
     let crypt = pattern.crypt as usize;
     if crypt == 0 {
         return false;
     }
-    o / 16 % (crypt + pattern.skip as usize) < crypt
+    o / ModeBlock::SIZE % (crypt + pattern.skip as usize) < crypt
 }
 
 // Whether the byte at an offset of a range of n bytes is ciphered.
@@ -48,7 +49,7 @@ pub fn ciphered_at(scheme: Scheme, pattern: Pattern, n: usize, o: usize) -> bool
 {
     match scheme {
         Scheme::Cenc => true,
-        Scheme::Cbc1 => o / 16 < n / 16,
+        Scheme::Cbc1 => o / ModeBlock::SIZE < n / ModeBlock::SIZE,
         Scheme::Cens => in_pattern(pattern, n, o),
         Scheme::Cbcs => in_pattern(pattern, n, o),
     }
@@ -158,11 +159,11 @@ pub fn used_at(
 {
     let p = locate(map, length, x);
     if every_byte(scheme) {
-        return p.rank % 16;
+        return p.rank % ModeBlock::SIZE;
     }
     if p.inside {
         if ciphered_at(scheme, pattern, p.n, p.o) {
-            return p.o % 16;
+            return p.o % ModeBlock::SIZE;
         }
     }
     0

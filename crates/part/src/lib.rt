@@ -15,6 +15,7 @@ ghost use Rattle.scheme.specs.Walk.{left, SampleAsks};
 ghost use Rattle.subsample_spec.specs.Auxiliary.{limit, longest};
 use aes::RoundKeys;
 use modes::Direction;
+use modes::ModeBlock;
 use scheme::Pattern;
 use scheme::Scheme;
 use subsample_spec::SubsampleMap;
@@ -37,7 +38,12 @@ fn begins_ciphered(parameters: Parameters) -> bool
     ensures { λ r. ⌜ r ≡ isCiphered (schemeOf (parameters .code)) (patternOf parameters) 16 0 ⌝ }
 {
     let code = parameters.code;
-    layout::ciphered_at(Scheme::of(code), Pattern::of(parameters), 16, 0)
+    layout::ciphered_at(
+        Scheme::of(code),
+        Pattern::of(parameters),
+        ModeBlock::SIZE,
+        0,
+    )
 }
 
 // Whether `size` bytes from a position of a protected sample on can be ciphered where they lie.
@@ -73,11 +79,7 @@ fn one_range(n: u32) -> SubsampleMap
 {
     let mut protected = [0u32; SubsampleMap::LIMIT];
     protected[0] = n;
-    SubsampleMap {
-        clear: [0; SubsampleMap::LIMIT],
-        protected,
-        count: 1,
-    }
+    SubsampleMap::new([0; SubsampleMap::LIMIT], protected, 1)
 }
 
 // The entries of a protected sample, as a map with at least one.
@@ -91,16 +93,12 @@ fn written(map: SubsampleMap, sample_length: usize) -> SubsampleMap
     }
     let clear = map.clear;
     let protected = map.protected;
-    SubsampleMap {
-        clear,
-        protected,
-        count: octets::least(count, SubsampleMap::LIMIT),
-    }
+    SubsampleMap::new(clear, protected, octets::least(count, SubsampleMap::LIMIT))
 }
 
 // How the ranges of a track are ciphered.
 fn ciphering(direction: Direction, parameters: Parameters) -> Ciphering
-    ensures { λ r. ⌜ r ≡ record { direction = direction; scheme = schemeOf (parameters .code); pattern = patternOf parameters; iv = parameters .«constant_iv» .0 } ⌝ }
+    ensures { λ r. ⌜ r ≡ record { direction = direction; scheme = schemeOf (parameters .code); pattern = patternOf parameters; iv = parameters .«constant_iv» } ⌝ }
 {
     let code = parameters.code;
     let iv = parameters.constant_iv;
@@ -108,7 +106,7 @@ fn ciphering(direction: Direction, parameters: Parameters) -> Ciphering
         direction,
         scheme: Scheme::of(code),
         pattern: Pattern::of(parameters),
-        iv: iv.bytes(),
+        iv,
     }
 }
 
@@ -119,15 +117,15 @@ fn cipher_part(
     map: SubsampleMap,
     sample_length: usize,
     from: usize,
-    block: [u8; 16],
+    block: ModeBlock,
     part: &mut [u8],
-) -> [u8; 16]
+) -> ModeBlock
     requires { ⌜ («sample_length» ≤ longest)
         × (SampleAsks (how .scheme) (how .pattern) (protectedEntries map «sample_length») from (length (now part))
         (counted (take from (mask (how .scheme) (how .pattern) (protectedEntries map «sample_length»))) % 16)) ⌝ }
-    ensures { λ r. ⌜ feedSample (encipher keys) (decipher keys) (how .direction) (how .scheme) (how .pattern) (how .iv)
-        (protectedEntries map «sample_length») (free from block) (now (part .entry))
-        ≡ left (from + length (now (part .entry))) r (now (part .exit)) ⌝ }
+    ensures { λ r. ⌜ feedSample (encipher keys) (decipher keys) (how .direction) (how .scheme) (how .pattern) (how .iv .0)
+        (protectedEntries map «sample_length») (free from (block .0)) (now (part .entry))
+        ≡ left (from + length (now (part .entry))) (r .0) (now (part .exit)) ⌝ }
 {
     let scheme = how.scheme;
     let pattern = how.pattern;
@@ -158,11 +156,11 @@ pub fn transform(
     map: SubsampleMap,
     sample_length: usize,
     from: usize,
-    block: [u8; 16],
+    block: ModeBlock,
     part: &mut [u8],
-) -> [u8; 16]
-    ensures { λ r. ⌜ (now (part .exit) ≡ transformed (encipher keys) (decipher keys) direction parameters map «sample_length» from block (now (part .entry)) .released)
-        × (r ≡ transformed (encipher keys) (decipher keys) direction parameters map «sample_length» from block (now (part .entry)) .state .block) ⌝ }
+) -> ModeBlock
+    ensures { λ r. ⌜ (now (part .exit) ≡ transformed (encipher keys) (decipher keys) direction parameters map «sample_length» from (block .0) (now (part .entry)) .released)
+        × (r .0 ≡ transformed (encipher keys) (decipher keys) direction parameters map «sample_length» from (block .0) (now (part .entry)) .state .block) ⌝ }
 {
     if parameters.protected != 1 {
         return block;

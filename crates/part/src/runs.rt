@@ -6,6 +6,7 @@ ghost use Rattle.scheme.specs.declared.Pattern.{Pattern};
 ghost use Rattle.scheme.specs.declared.Scheme.the-variants.{Cbc1, Cens, Cbcs};
 ghost use Rattle.scheme.specs.Layout.{isCiphered, restarts as restartsAt};
 ghost use Rattle.scheme.specs.Walk.{RunAt};
+use modes::ModeBlock;
 use scheme::Pattern;
 use scheme::Scheme;
 
@@ -29,7 +30,7 @@ pub(crate) fn restarts(scheme: Scheme, o: usize) -> bool
         Scheme::Cenc => false,
         Scheme::Cbc1 => false,
         Scheme::Cens => false,
-        Scheme::Cbcs => o / 16 == 0,
+        Scheme::Cbcs => o / ModeBlock::SIZE == 0,
     }
 }
 
@@ -38,7 +39,7 @@ fn whole_run(n: usize, o: usize) -> Run
     requires { ⌜ o < n ⌝ }
     ensures { λ r. ⌜ ((pattern : Pattern) → RunAt Cbc1 pattern n o (r .ciphered) (r .end)) ⌝ }
 {
-    let whole = n / 16 * 16;
+    let whole = n / ModeBlock::SIZE * ModeBlock::SIZE;
     if o < whole {
         Run {
             ciphered: true,
@@ -57,7 +58,7 @@ fn pattern_run(pattern: Pattern, n: usize, o: usize) -> Run
     requires { ⌜ (o < n) × (1 ≤ pattern .crypt) × (n < 2 ^ 32) ⌝ }
     ensures { λ r. ⌜ (RunAt Cens pattern n o (r .ciphered) (r .end)) × (RunAt Cbcs pattern n o (r .ciphered) (r .end)) ⌝ }
 {
-    let whole = n / 16 * 16;
+    let whole = n / ModeBlock::SIZE * ModeBlock::SIZE;
     if whole <= o {
         return Run {
             ciphered: false,
@@ -65,19 +66,19 @@ fn pattern_run(pattern: Pattern, n: usize, o: usize) -> Run
         };
     }
     let crypt = pattern.crypt as usize;
-    let block = o / 16;
+    let block = o / ModeBlock::SIZE;
     let period = crypt + pattern.skip as usize;
     let nth = block % period;
     let first = block - nth;
     if nth < crypt {
         Run {
             ciphered: true,
-            end: octets::least((first + crypt) * 16, whole),
+            end: octets::least((first + crypt) * ModeBlock::SIZE, whole),
         }
     } else {
         Run {
             ciphered: false,
-            end: octets::least((first + period) * 16, whole),
+            end: octets::least((first + period) * ModeBlock::SIZE, whole),
         }
     }
 }

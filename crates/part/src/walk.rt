@@ -13,27 +13,29 @@ ghost use Rattle.subsample_spec.specs.Auxiliary.{limit};
 use crate::runs;
 use aes::RoundKeys;
 use modes::Direction;
+use modes::ModeBlock;
 use scheme::Mode;
 use scheme::Pattern;
 use scheme::Scheme;
 use subsample_spec::SubsampleMap;
+use track_spec::StartVector;
 
 // How the ranges of a track are ciphered; a chain that starts anew takes the IV.
 pub(crate) struct Ciphering {
     pub direction: Direction,
     pub scheme: Scheme,
     pub pattern: Pattern,
-    pub iv: [u8; 16],
+    pub iv: StartVector,
 }
 
 // The counter or chain block, and how many bytes of the counter block's key stream are used.
 pub(crate) struct Progress {
-    pub block: [u8; 16],
+    pub block: ModeBlock,
     pub used: usize,
 }
 
-fn choose(first: bool, a: [u8; 16], b: [u8; 16]) -> [u8; 16]
-    ensures { λ r. ⌜ r ≡ cond first a b ⌝ }
+fn choose(first: bool, a: ModeBlock, b: ModeBlock) -> ModeBlock
+    ensures { λ r. ⌜ r .0 ≡ cond first (a .0) (b .0) ⌝ }
 {
     if first { a } else { b }
 }
@@ -43,15 +45,15 @@ fn cipher_run(
     keys: RoundKeys,
     how: Ciphering,
     restart: bool,
-    block: [u8; 16],
+    block: ModeBlock,
     used: usize,
     part: &mut [u8],
-) -> [u8; 16]
+) -> ModeBlock
     requires { ⌜ (used < 16) × (modeOf (how .scheme) ≡ Chain → Blocks used (length (now part))) ⌝ }
     ensures { λ r. ⌜ ((fs : List Bool) → RestartsAt (modeOf (how .scheme)) restart fs (length (now (part .entry)))
-        → Passes (encipher keys) (decipher keys) (how .direction) (modeOf (how .scheme)) (how .iv)
+        → Passes (encipher keys) (decipher keys) (how .direction) (modeOf (how .scheme)) (how .iv .0)
         (replicate (length (now (part .entry))) true) fs
-        used block (now (part .entry)) ((used + length (now (part .entry))) % 16) r (now (part .exit))) ⌝ }
+        used (block .0) (now (part .entry)) ((used + length (now (part .entry))) % 16) (r .0) (now (part .exit))) ⌝ }
 {
     let scheme = how.scheme;
     let mode = scheme.mode();
@@ -60,7 +62,7 @@ fn cipher_run(
         Mode::Chain => {
             let direction = how.direction;
             let iv = how.iv;
-            let chain = choose(restart, iv, block);
+            let chain = choose(restart, scheme::first_block(iv), block);
             modes::cbc(keys, direction, chain, part)
         }
     }
@@ -76,8 +78,8 @@ fn range_part(
     part: &mut [u8],
 ) -> Progress
     requires { ⌜ RangeAsks (how .scheme) (how .pattern) n from (length (now part)) (progress .used) ⌝ }
-    ensures { λ r. ⌜ RangeSays (encipher keys) (decipher keys) (how .direction) (how .scheme) (how .pattern) (how .iv) n from
-        (progress .used) (progress .block) (now (part .entry)) (r .used) (r .block) (now (part .exit)) ⌝ }
+    ensures { λ r. ⌜ RangeSays (encipher keys) (decipher keys) (how .direction) (how .scheme) (how .pattern) (how .iv .0) n from
+        (progress .used) (progress .block .0) (now (part .entry)) (r .used) (r .block .0) (now (part .exit)) ⌝ }
 {
     let scheme = how.scheme;
     let pattern = how.pattern;
@@ -92,7 +94,7 @@ fn range_part(
             let restart = runs::restarts(scheme, o);
             let next = cipher_run(keys, how, restart, block, used, &mut part[at..end]);
             block = next;
-            used = (used + (end - at)) % 16;
+            used = (used + (end - at)) % ModeBlock::SIZE;
         }
         at = end;
     }
@@ -110,8 +112,8 @@ fn entry_part(
     part: &mut [u8],
 ) -> Progress
     requires { ⌜ EntryAsks (how .scheme) (how .pattern) clear n from (length (now part)) (progress .used) ⌝ }
-    ensures { λ r. ⌜ EntrySays (encipher keys) (decipher keys) (how .direction) (how .scheme) (how .pattern) (how .iv) clear n from
-        (progress .used) (progress .block) (now (part .entry)) (r .used) (r .block) (now (part .exit)) ⌝ }
+    ensures { λ r. ⌜ EntrySays (encipher keys) (decipher keys) (how .direction) (how .scheme) (how .pattern) (how .iv .0) clear n from
+        (progress .used) (progress .block .0) (now (part .entry)) (r .used) (r .block .0) (now (part .exit)) ⌝ }
 {
     let stay = octets::least(runs::less(clear, from), part.len());
     range_part(
@@ -137,9 +139,9 @@ pub(crate) fn sample_part(
 ) -> Progress
     requires { ⌜ (count ≤ limit)
         × (SampleAsks (how .scheme) (how .pattern) (entries clear protected count) from (length (now part)) (progress .used)) ⌝ }
-    ensures { λ r. ⌜ SampleSays (encipher keys) (decipher keys) (how .direction) (how .scheme) (how .pattern) (how .iv)
+    ensures { λ r. ⌜ SampleSays (encipher keys) (decipher keys) (how .direction) (how .scheme) (how .pattern) (how .iv .0)
         (entries clear protected count) from
-        (progress .block) (now (part .entry)) (r .used) (r .block) (now (part .exit)) ⌝ }
+        (progress .block .0) (now (part .entry)) (r .used) (r .block .0) (now (part .exit)) ⌝ }
 {
     let mut state = progress;
     let mut at = 0;

@@ -14,6 +14,7 @@ pub use sample_spec::InputsRead;
 pub use sample_spec::KeyFound;
 pub use sample_spec::refusal;
 use subsample::SubsampleMap;
+use track::Kid;
 use track::Parameters;
 use track::StartVector;
 use track::refusal::DONE;
@@ -34,16 +35,16 @@ pub fn find_key(parameters: Parameters, key_record: &[u8]) -> KeyFound
     if parameters.protected != 1 {
         return no_key(DONE);
     }
-    if key_record.len() != 32 {
+    if key_record.len() != KeyFound::RECORD {
         return no_key(refusal::KEY_RECORD);
     }
     let kid = parameters.kid;
-    if !octets::same(&key_record[0..16], &kid.bytes()) {
+    if !octets::same(&key_record[0..Kid::SIZE], &kid.bytes()) {
         return no_key(refusal::KID);
     }
     KeyFound {
         answer: DONE,
-        key: Key::new(octets::sixteen_at(key_record, 16)),
+        key: Key::new(octets::sixteen_at(key_record, Kid::SIZE)),
     }
 }
 
@@ -110,7 +111,7 @@ fn transform(direction: Direction, inputs: InputsRead, sample: &mut [u8])
         map,
         sample.len(),
         0,
-        iv.bytes(),
+        scheme::first_block(iv),
         sample,
     );
 }

@@ -13,6 +13,11 @@ pub struct KeyFound {
     pub key: Key,
 }
 
+impl KeyFound {
+    // The bytes of a key record: the KID, then the key.
+    pub const RECORD: usize = 32;
+}
+
 // What reading the inputs of a sample answers.
 pub struct InputsRead {
     pub answer: u8,

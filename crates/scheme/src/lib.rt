@@ -3,7 +3,16 @@
 ghost use mathlib.Core.Path.{_≡_};
 ghost use Rattle.scheme.specs.Layout as spec;
 ghost use Rattle.scheme.specs.Machine.{modeOf};
+use modes_spec::ModeBlock;
 use track_spec::Parameters;
+use track_spec::StartVector;
+
+// The counter or chain block that a sample, or in cbcs a range, begins with: the start vector's bytes.
+pub fn first_block(iv: StartVector) -> ModeBlock
+    ensures { λ r. ⌜ r .0 ≡ iv .0 ⌝ }
+{
+    ModeBlock::new(iv.bytes())
+}
 
 pub enum Scheme {
     Cenc,

@@ -9,7 +9,9 @@ ghost use Rattle.octets.specs.Bytes.{filled};
 ghost use Rattle.joined.specs.Joined.{joinedInto};
 ghost use Rattle.sample_spec.specs.Sample.{inputs};
 ghost use Rattle.stream_spec.specs.Stream as spec;
+use aes::Block;
 use modes::Direction;
+use modes::ModeBlock;
 use stream_spec::Checked;
 pub use stream_spec::Declared;
 pub use stream_spec::Ended;
@@ -45,16 +47,7 @@ pub fn start(
     let iv = read.iv;
     Started {
         answer: DONE,
-        stream: Stream {
-            declared: Declared {
-                direction,
-                parameters,
-                length: sample_length,
-                map,
-                key,
-            },
-            progress: Progress::begun(iv.bytes()),
-        },
+        stream: Stream::begun(direction, parameters, sample_length, map, key, iv),
     }
 }
 
@@ -143,7 +136,7 @@ fn check(stream: Stream, n: usize, room: usize) -> Checked
 }
 
 // Fills the output with the first of the held bytes and the piece, and answers those after them, to be held.
-fn take_due(progress: Progress, piece: &[u8], out: &mut [u8]) -> [u8; 16]
+fn take_due(progress: Progress, piece: &[u8], out: &mut [u8]) -> [u8; Block::SIZE]
     requires { ⌜ progress .«held_count» ≤ 16 ⌝ }
     ensures { λ r. ⌜ (r ≡ filled 16 (drop (length (now (out .entry))) (spec.stateOf progress .held ++ now (piece .entry))))
         × (now (out .exit) ≡ joinedInto (spec.stateOf progress .held) (now (piece .entry)) (now (out .entry))) ⌝ }
@@ -156,9 +149,9 @@ fn take_due(progress: Progress, piece: &[u8], out: &mut [u8]) -> [u8; 16]
 }
 
 // Ciphers a part of the declared sample where it lies, from a position on.
-fn transform(declared: Declared, from: usize, block: [u8; 16], part: &mut [u8]) -> [u8; 16]
-    ensures { λ r. ⌜ (now (part .exit) ≡ spec.transformedBy declared from block (now (part .entry)) .released)
-        × (r ≡ spec.transformedBy declared from block (now (part .entry)) .state .block) ⌝ }
+fn transform(declared: Declared, from: usize, block: ModeBlock, part: &mut [u8]) -> ModeBlock
+    ensures { λ r. ⌜ (now (part .exit) ≡ spec.transformedBy declared from (block .0) (now (part .entry)) .released)
+        × (r .0 ≡ spec.transformedBy declared from (block .0) (now (part .entry)) .state .block) ⌝ }
 {
     let direction = declared.direction;
     let parameters = declared.parameters;

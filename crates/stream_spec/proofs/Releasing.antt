@@ -117,11 +117,11 @@ module _ (t : Stream) (ok : sound t ≡ true) (w : Places t) (piece : List ℕ)
 
   -- and what the code makes of them where they lie
   abbrev pub T : Stepped
-  T = transformedBy q x (g .block) part
+  T = transformedBy q x (g .block .0) part
 
   -- the machine over them from where nothing is held
   abbrev fed : Stepped
-  fed = machine q (free x (g .block)) part
+  fed = machine q (free x (g .block .0)) part
 
   at-start : heldAt pattern es s (g .position) ≡ g .«held_count»
   unfolding heldUnder
@@ -139,7 +139,7 @@ module _ (t : Stream) (ok : sound t ≡ true) (w : Places t) (piece : List ℕ)
     asked =
         (rw (at-start, at-end) at
         (piece-asks E D (λ b l. encipher-length _ b) (λ b l. decipher-length _ b) (q .direction) s pattern
-        (p .«constant_iv» .0) es (g .position) (g .block) h piece h-held
+        (p .«constant_iv» .0) es (g .position) (g .block .0) h piece h-held
         (allowed-first p (check-known p (rules .parameters)) (check-allowed p (rules .parameters)) one) (omega (arith, whole))))
         (count (take x (mask s pattern es)) % 16) refl
 
@@ -153,10 +153,10 @@ module _ (t : Stream) (ok : sound t ≡ true) (w : Places t) (piece : List ℕ)
 
     no-held : fed .state .held ≡ []
     unfolding heldUnder
-    no-held = empty (fed .state .held) (machine-held q (free x (g .block)) part (sym (asked .from)) ∙ asked .to)
+    no-held = empty (fed .state .held) (machine-held q (free x (g .block .0)) part (sym (asked .from)) ∙ asked .to)
 
     protected-fed : fed ≡ left (x + length part) (T .state .block) (T .released)
-    protected-fed = rw fed-part (stepped-is fed (x + length part) (machine-position q (free x (g .block)) part) no-held)
+    protected-fed = rw fed-part (stepped-is fed (x + length part) (machine-position q (free x (g .block .0)) part) no-held)
 
   -- of either kind of track
   part-fed : fed ≡ left (x + length part) (T .state .block) (T .released)
@@ -166,8 +166,8 @@ module _ (t : Stream) (ok : sound t ≡ true) (w : Places t) (piece : List ℕ)
       go : (b : Bool) → eqb (p .protected) 1 ≡ b → fed ≡ left (x + length part) (T .state .block) (T .released)
       go true e = protected-fed (eqb-true (p .protected) 1 e)
       go false e =
-          let c = transformed-clear E D (q .direction) p m n x (g .block) part e in
-          clear-fed E D (q .direction) p m n e x (g .block) [] part ∙ rw (c .0, c .1)
+          let c = transformed-clear E D (q .direction) p m n x (g .block .0) part e in
+          clear-fed E D (q .direction) p m n e x (g .block .0) [] part ∙ rw (c .0, c .1)
 
   -- the machine over the piece after the held bytes
   pub fed-is : fedBy t piece
@@ -179,11 +179,11 @@ module _ (t : Stream) (ok : sound t ≡ true) (w : Places t) (piece : List ℕ)
   fed-is =
       (rw (at-start, at-end) at
       (piece-says E D (λ b l. encipher-length _ b) (λ b l. decipher-length _ b) (q .direction) s pattern
-      (p .«constant_iv» .0) es (g .position) (g .block) h piece h-held (T .state .block) (T .released)))
+      (p .«constant_iv» .0) es (g .position) (g .block .0) h piece h-held (T .state .block) (T .released)))
       part-fed
 
   -- the progress after it, as the code writes it
   pub released-progress : (block rest : List ℕ) (j : ℕ) → block ≡ T .state .block → rest ≡ filled 16 (drop (due t (length piece)) all)
       → j ≡ k
-      → record { position = g .position + length piece; block = block; held = rest; «held_count» = j } ≡ afterPiece t piece .progress
+      → record { position = g .position + length piece; block = record { 0 = block }; held = rest; «held_count» = j } ≡ afterPiece t piece .progress
   released-progress block rest j eb er ej = rw (eb, er, ej, fed-is, size-rest)

@@ -45,22 +45,16 @@ sound t =
 
 -- The progress of a stream that nothing was fed to.
 abbrev pub begun : List ℕ → Progress
-begun iv = record { position = 0; block = iv; held = zeros; «held_count» = 0 }
+begun iv = record { position = 0; block = record { 0 = iv }; held = zeros; «held_count» = 0 }
+
+-- The record of a start with an IV.
+abbrev pub begunWith : Declared → List ℕ → Stream
+begunWith q iv = record { declared = q; progress = begun iv }
 
 -- The record of a refused start: that of an empty unprotected cenc track in version 0, set to open, all else zero.
 abbrev pub idle : Stream
 idle =
-    record {
-      declared =
-          record {
-            direction = Open;
-            parameters = unprotected;
-            length = 0;
-            map = emptyMap;
-            key = record { 0 = zeros };
-          };
-      progress = begun zeros;
-    }
+    begunWith (record { direction = Open; parameters = unprotected; length = 0; map = emptyMap; key = record { 0 = zeros } }) zeros
 
 -- ---- The start: 1 to 12, with a declared length in place of the sample.
 
@@ -72,20 +66,20 @@ unfoldable pub start : Direction → Inputs → ℕ → Started
 start d i n =
     record {
       answer = answer (sampleRows i n);
-      stream = cond (eqb (answer (sampleRows i n)) 0) (record { declared = declaredBy d i n; progress = begun (ivOf i) }) idle;
+      stream = cond (eqb (answer (sampleRows i n)) 0) (begunWith (declaredBy d i n) (ivOf i)) idle;
     }
 
 -- ---- Feeding a piece: 13 to 15.
 
 -- What the machine keeps of the progress, and the progress that it leaves; free held places become zero.
 abbrev pub stateOf : Progress → State
-stateOf g = record { position = g .position; block = g .block; held = take (g .«held_count») (g .held) }
+stateOf g = record { position = g .position; block = g .block .0; held = take (g .«held_count») (g .held) }
 
 abbrev pub progressOf : State → Progress
 progressOf s =
     record {
       position = s .position;
-      block = s .block;
+      block = record { 0 = s .block };
       held = filled 16 (s .held);
       «held_count» = length (s .held);
     }

@@ -4,10 +4,13 @@ pub mod refusal;
 
 ghost use mathlib.Core.Path.{_≡_};
 ghost use Rattle.stream_spec.specs.Stream as spec;
+use aes::Block;
 use aes::Key;
 use modes_spec::Direction;
+use modes_spec::ModeBlock;
 use subsample_spec::SubsampleMap;
 use track_spec::Parameters;
+use track_spec::StartVector;
 
 // What was declared at the start of a stream. No feeding changes it.
 pub struct Declared {
@@ -21,8 +24,8 @@ pub struct Declared {
 // How far a stream has come: the position, the counter or chain block, and the bytes held.
 pub struct Progress {
     pub position: usize,
-    pub block: [u8; 16],
-    pub held: [u8; 16],
+    pub block: ModeBlock,
+    pub held: [u8; Block::SIZE],
     pub held_count: usize,
 }
 
@@ -34,36 +37,57 @@ pub struct Stream {
 
 impl Progress {
     // The progress of a stream that nothing was fed to.
-    pub fn begun(iv: [u8; 16]) -> Progress
-        ensures { λ r. ⌜ r ≡ spec.begun iv ⌝ }
+    pub fn begun(block: ModeBlock) -> Progress
+        ensures { λ r. ⌜ r ≡ spec.begun (block .0) ⌝ }
     {
         Progress {
             position: 0,
-            block: iv,
-            held: [0; 16],
+            block,
+            held: [0; Block::SIZE],
             held_count: 0,
         }
     }
 }
 
 impl Stream {
-    // The most bytes that are ever held.
-    pub const MOST_HELD: usize = 15;
+    // The most bytes that are ever held: one less than a block.
+    pub const MOST_HELD: usize = Block::SIZE - 1;
+
+    // The record of an accepted start.
+    pub fn begun(
+        direction: Direction,
+        parameters: Parameters,
+        length: usize,
+        map: SubsampleMap,
+        key: Key,
+        iv: StartVector,
+    ) -> Stream
+        ensures { λ r. ⌜ r ≡ spec.begunWith (record { direction = direction; parameters = parameters; length = «length»; map = map; key = key }) (iv .0) ⌝ }
+    {
+        Stream {
+            declared: Declared {
+                direction,
+                parameters,
+                length,
+                map,
+                key,
+            },
+            progress: Progress::begun(scheme::first_block(iv)),
+        }
+    }
 
     // The record of a refused start: an empty unprotected cenc track, set to open.
     pub fn idle() -> Stream
         ensures { λ r. ⌜ r ≡ spec.idle ⌝ }
     {
-        Stream {
-            declared: Declared {
-                direction: Direction::Open,
-                parameters: Parameters::unprotected(),
-                length: 0,
-                map: SubsampleMap::empty(),
-                key: Key::new([0; Key::SIZE]),
-            },
-            progress: Progress::begun([0; 16]),
-        }
+        Stream::begun(
+            Direction::Open,
+            Parameters::unprotected(),
+            0,
+            SubsampleMap::empty(),
+            Key::new([0; Key::SIZE]),
+            StartVector::new([0; StartVector::SIZE]),
+        )
     }
 }
 

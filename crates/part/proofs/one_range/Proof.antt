@@ -7,9 +7,11 @@ use Rattle.part.proofs.one_range.Tie as tie
 
 returns : tie.Need-returns
 unfolding entries
-returns c = (refl, omega arith)
+returns c =
+    let e = c .new .ensures in
+    (rw e refl, rw e (omega arith))
 
 pub one-range-spec : {M : Type 1} → statement M
 one-range-spec =
     tie.close
-    (tie.spec (search needs) returns)
+    (tie.spec (search needs) (search needs) returns)

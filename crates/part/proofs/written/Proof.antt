@@ -17,11 +17,13 @@ returns c =
 returns-2 : tie.Need-returns-2
 unfolding protectedEntries
 returns-2 c =
-    let m = c .before .before .before .before .args .map in
+    let l = c .before in
+    let m = l .before .before .before .before .args .map in
     let n : length (m .clear) ≡ limit = search needs in
-    (rw (ne-eqb (m .count) 0 (c .before .before .before .if1 .left), c .least .ensures) (entries-limit limit (m .clear) (m .protected) (m .count) n), omega (arith, c .least .ensures))
+    let e = c .new .ensures in
+    (rw (e, ne-eqb (m .count) 0 (l .before .before .before .if1 .left), l .least .ensures) (entries-limit limit (m .clear) (m .protected) (m .count) n), rw e (omega (arith, l .least .ensures)))
 
 pub written-spec : {M : Type 1} → statement M
 written-spec =
     tie.close
-    (tie.spec (search needs) (search needs) returns (search needs) returns-2)
+    (tie.spec (search needs) (search needs) returns (search needs) (search needs) returns-2)

@@ -5,7 +5,7 @@ use borrow.Author.Needs.{needs}
 use Rattle.stream.proofs.start.Statement.{statement}
 use Rattle.stream.proofs.start.Tie as tie
 
-abbrev accepted : tie.After-bytes → tie.Else1
+abbrev accepted : tie.After-begun → tie.Else1
 accepted c = c .before .before .before .before .before
 
 abbrev start : tie.After-read-inputs → tie.Start
@@ -25,15 +25,14 @@ returns c =
 
 returns-2 : tie.Need-returns-2
 returns-2 c =
-    let b = c .before in
-    let e = accepted b in
+    let e = accepted c in
     let r = e .before .before in
     let s = start r in
-    rw (c .begun .ensures, b .bytes .ensures)
+    rw (c .begun .ensures)
     (start-accepted (s .args .direction) (given s) (s .args .sample-length) (r .read-inputs .result) (r .read-inputs .ensures)
     (e .if1 .left))
 
 pub start-spec : {M : Type 1} → statement M
 start-spec =
     tie.close
-    (tie.spec (search needs) (search needs) returns (search needs) (search needs) returns-2)
+    (tie.spec (search needs) (search needs) returns (search needs) returns-2)

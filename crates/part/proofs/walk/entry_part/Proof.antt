@@ -7,7 +7,7 @@ use Rattle.part.proofs.walk.entry_part.Tie as tie
 range-part-requires : tie.Need-range-part-requires
 range-part-requires c κs =
     let a = c .before .before .before .before .before .args in
-    entry-asked (encipher (a .keys)) (decipher (a .keys)) (a .how .direction) _ _ (a .how .iv) _ _ _ _ (a .progress .block)
+    entry-asked (encipher (a .keys)) (decipher (a .keys)) (a .how .direction) _ _ (a .how .iv .0) _ _ _ _ (a .progress .block .0)
     (a .part .now) (c .before .before .before .before .before .pre) (c .before .before .least .result) (c .before .less2 .result) (rw (c .before .before .before .less .ensures) at (c .before .before .least .ensures)) (c .before .less2 .ensures)
 
 returns : tie.Need-returns

@@ -10,7 +10,7 @@ use Rattle.part.proofs.walk.range_part.Tie as tie
 
 abbrev Inv-loop : tie.InvT-loop
 Inv-loop keys how n from part₀ scheme pattern block₀ used₀ at₀ part block used at =
-    (Ranged (encipher keys) (decipher keys) (how .direction) (how .scheme) (how .pattern) (how .iv) n from used₀ block₀ part₀ part block used at)
+    (Ranged (encipher keys) (decipher keys) (how .direction) (how .scheme) (how .pattern) (how .iv .0) n from used₀ (block₀ .0) part₀ part (block .0) used at)
 
 abbrev μ-loop : tie.MeasureT-loop
 μ-loop keys how n from part₀ scheme pattern block₀ used₀ at₀ part block used at = length part₀ - at
@@ -91,7 +91,7 @@ loop-again c =
     let t = i .before in
     let s = start (turn t) in
     range-turned _ _ _ _ _ _ _ _ _ _ _ (s .pre) (turn t .loop .inv) (left (run t .before)) (run t .run-at .ensures) (t .least .result) (t .least .ensures) (i .if1 .taken)
-    (k .cipher-run .last .1 .1 .1 .1 .1 .0) (k .cipher-run .result) (k .cipher-run .kept .1 .1 .1 .1 .1 .0)
+    (k .cipher-run .last .1 .1 .1 .1 .1 .0) (k .cipher-run .result .0) (k .cipher-run .kept .1 .1 .1 .1 .1 .0)
     (rw (k .before .before .restarts .ensures (s .args .n)) at (k .cipher-run .ensures))
 
 loop-less-2 : tie.Need-loop-less-2 Inv-loop μ-loop

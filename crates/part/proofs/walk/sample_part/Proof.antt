@@ -16,8 +16,8 @@ use Rattle.part.proofs.walk.sample_part.Tie as tie
 
 abbrev Inv-loop : tie.InvT-loop
 Inv-loop keys how count from part₀ clear protected state₀ at₀ k₀ o₀ part state at k o =
-    (Walked (encipher keys) (decipher keys) (how .direction) (how .scheme) (how .pattern) (how .iv) (entries clear protected count)
-    from (state₀ .used) (state₀ .block) part₀ part (state .block) (state .used) at k o)
+    (Walked (encipher keys) (decipher keys) (how .direction) (how .scheme) (how .pattern) (how .iv .0) (entries clear protected count)
+    from (state₀ .used) (state₀ .block .0) part₀ part (state .block .0) (state .used) at k o)
 
 abbrev μ-loop : tie.MeasureT-loop
 μ-loop keys how count from part₀ clear protected state₀ at₀ k₀ o₀ part state at k o = count - k
