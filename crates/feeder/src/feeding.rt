@@ -9,7 +9,7 @@ use track::refusal::DONE;
 // The largest piece, and an output with room for the bytes held before it.
 pub const PIECE: usize = 65536;
 
-pub const OUTPUT: usize = PIECE + 16;
+pub const OUTPUT: usize = PIECE + Stream::MOST_HELD;
 
 // How feeding ends.
 pub enum Ending {

@@ -43,7 +43,7 @@ pub fn start(bytes: &[u8]) -> Started
             },
         };
     }
-    if bytes.len() == 16 {
+    if bytes.len() == StartVector::SIZE {
         return Started {
             answer: DONE,
             issuer: Issuer {
@@ -61,7 +61,7 @@ pub fn start(bytes: &[u8]) -> Started
 }
 
 // Eight bytes and eight more.
-fn joined(a: [u8; 8], b: [u8; 8]) -> [u8; 16]
+fn joined(a: [u8; 8], b: [u8; 8]) -> [u8; StartVector::SIZE]
     ensures { λ r. ⌜ r ≡ a ++ b ⌝ }
 {
     [

@@ -8,6 +8,7 @@ use crate::output;
 use crate::samples;
 use aes::Key;
 use modes::Direction;
+use modes::ModeBlock;
 use stream::Declared;
 use stream::Progress;
 use stream::Started;
@@ -46,7 +47,7 @@ fn put_map(length: usize, map: SubsampleMap, out: &mut [u8], at: usize) -> usize
 // `POSITION KEY BLOCK HELD HELDCOUNT`.
 fn put_progress(key: Key, progress: Progress, out: &mut [u8], at: usize) -> usize {
     let key_bytes = key.0;
-    let block = progress.block;
+    let block = progress.block.0;
     let held = progress.held;
     let at = output::number_then(progress.position as u64, b' ', out, at);
     let at = output::bytes_then(&key_bytes, b' ', out, at);
@@ -205,11 +206,7 @@ fn map(count: usize, word: &[u8]) -> SubsampleMap {
         protected[i] = entry.protected;
         at = end + 1;
     }
-    SubsampleMap {
-        clear,
-        protected,
-        count,
-    }
+    SubsampleMap::new(clear, protected, count)
 }
 
 // What was declared: the words 1 to 11 of a line, and the key, word 13.
@@ -233,7 +230,7 @@ fn declared(line: &[u8], bytes: &[u8], ends: Ends) -> Declared {
 fn progress(line: &[u8], bytes: &[u8], ends: Ends) -> Progress {
     Progress {
         position: text::number_at(line, 12, b' ', u64::MAX) as usize,
-        block: octets::sixteen(line::bytes(bytes, ends, 14)),
+        block: ModeBlock::new(octets::sixteen(line::bytes(bytes, ends, 14))),
         held: octets::sixteen(line::bytes(bytes, ends, 15)),
         held_count: text::number_at(line, 16, b' ', u64::MAX) as usize,
     }

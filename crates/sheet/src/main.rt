@@ -9,6 +9,7 @@ use libc::STDERR_FILENO;
 use libc::STDIN_FILENO;
 use libc::STDOUT_FILENO;
 use track::Parameters;
+use track::StartVector;
 use track::refusal;
 
 // The longest input that is not refused for its length.
@@ -78,7 +79,12 @@ fn pattern_line(crypt: u8, skip: u8, out: &mut [u8; 160], at: usize) -> usize
 }
 
 // The constant IV, or `none`.
-fn constant_line(has: bool, constant: [u8; 16], out: &mut [u8; 160], at: usize) -> usize
+fn constant_line(
+    has: bool,
+    constant: [u8; StartVector::SIZE],
+    out: &mut [u8; 160],
+    at: usize,
+) -> usize
     requires { ⌜ at + length (spec.constantLine has constant) ≤ 160 ⌝ }
     ensures { λ r. ⌜ spec.Put (now (out .entry)) (now (out .exit)) at (spec.constantLine has constant) r ⌝ }
 {

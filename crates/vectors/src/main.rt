@@ -12,7 +12,7 @@ fn print_number(n: usize) {
     io::print_decimal(STDOUT_FILENO, n as u64);
 }
 
-fn print_bytes(b: [u8; 16]) {
+fn print_bytes(b: [u8; Block::SIZE]) {
     io::print_hex(STDOUT_FILENO, numbers::be64(&b, 0), 16);
     io::print_hex(STDOUT_FILENO, numbers::be64(&b, 8), 16);
 }
@@ -85,8 +85,8 @@ fn numbered_lines(text: &[u8], blocks: &[u8]) {
 
 // Block i, counted from 1 in the line.
 fn numbered_line(text: &[u8], i: usize, blocks: &[u8]) {
-    if i < blocks.len() / 16 {
-        let at = i * 16;
+    if i < blocks.len() / Block::SIZE {
+        let at = i * Block::SIZE;
         print(text);
         print_number(i + 1);
         print(b" ");
@@ -119,13 +119,13 @@ fn counter() {
 
 // A key and a block of the chain.
 struct Chain {
-    key: [u8; 16],
-    block: [u8; 16],
+    key: [u8; Key::SIZE],
+    block: [u8; Block::SIZE],
 }
 
-fn xor(a: [u8; 16], b: [u8; 16]) -> [u8; 16] {
+fn xor(a: [u8; Block::SIZE], b: [u8; Block::SIZE]) -> [u8; Block::SIZE] {
     let mut r = a;
-    for i in 0..16usize {
+    for i in 0..Block::SIZE {
         r[i] = a[i] ^ b[i];
     }
     r
@@ -256,7 +256,7 @@ fn chains() {
         b" enciphered ",
         Chain {
             key: first,
-            block: [0; 16],
+            block: [0; Block::SIZE],
         },
     );
     back_all(b" deciphered ", last);
