@@ -16,11 +16,12 @@ use Rattle.modes_spec.proofs.Undone.{back, Inverse}
 use Rattle.track_spec.specs.declared.Parameters.{Parameters}
 use Rattle.track_spec.specs.Track.{zeros}
 use Rattle.subsample_spec.specs.declared.SubsampleMap.{SubsampleMap}
-use Rattle.scheme.specs.Layout.{schemeOf, patternOf, mask}
+use Rattle.scheme.specs.Layout.{schemeOf, patternOf}
 use Rattle.scheme.specs.Part.{entriesOf, ciphered}
 use Rattle.scheme.proofs.Undone.{whole-back, length-whole, unmarked-stay}
 use Rattle.scheme.proofs.Under.{clear-ciphered}
 use Rattle.sample_spec.specs.Sample.{Inputs, OfBytes, keyIn, parametersOf, keyOf, mapOf, ivOf, sampleRows, cipheredBy, sampleAfter}
+use Rattle.sample_spec.specs.Counters.{markedFor}
 use Rattle.sample_spec.proofs.Accepted.{begins, after-refusal}
 
 -- the block under a key of 16 bytes
@@ -60,10 +61,6 @@ module _ (i : Inputs) where
   abbrev answered : ℕ → ℕ
   answered n = answer (sampleRows i n)
 
-  -- For each byte of a sample of n bytes, whether it is ciphered.
-  abbrev marked : ℕ → List Bool
-  marked n = mask (schemeOf (parametersOf i .code)) (patternOf (parametersOf i)) (entriesOf (parametersOf i) (mapOf i) n)
-
   module _ (d : Direction) (xs : List ℕ) where
     accepted-after : answered (length xs) ≡ 0 → sampleAfter d i xs ≡ cipheredBy d i xs
     unfolding sampleAfter
@@ -94,7 +91,7 @@ module _ (i : Inputs) where
     answer-after = ap answered length-after
 
     -- A byte that is not marked never changes.
-    pub unmarked-stays : (k : ℕ) → getD (marked (length xs)) k false ≡ false → getD (sampleAfter d i xs) k 0 ≡ getD xs k 0
+    pub unmarked-stays : (k : ℕ) → getD (markedFor i (length xs)) k false ≡ false → getD (sampleAfter d i xs) k 0 ≡ getD xs k 0
     unfolding cipheredBy ciphered
     unmarked-stays k m =
         either (λ (ys : List ℕ). getD ys k 0 ≡ getD xs k 0)

@@ -1,4 +1,4 @@
--- What a run of ciphered bytes gives, of either modeOf.
+-- What a run of ciphered bytes gives, in either mode.
 use mathlib.Core.Path.{_≡_, _∙_}
 use mathlib.Core.Bool.{Bool, true, false, cond}
 use mathlib.Core.List.{List, _++_}

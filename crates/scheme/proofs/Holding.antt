@@ -19,8 +19,7 @@ use Rattle.scheme.proofs.Pieces.{cond-law, Sized, heldAfter, Added, fee
 use Rattle.scheme.proofs.Agreement.{drop-head, drop-tail}
 use Rattle.scheme.specs.Machine.{free, State, Stepped, modeOf, chained, cipheredStep, step, feed, feedSample}
 use Rattle.scheme.specs.Held.{Place, Clear, Inside, place, inPlace, inBlock, heldAt}
-use Rattle.scheme.proofs.Positions.{place-law, marks-at}
-use Rattle.scheme.proofs.Demand.{heldAt-is}
+use Rattle.scheme.proofs.Positions.{place-law, marks-at, heldAt-is}
 use Rattle.scheme.specs.declared.Mode.{Mode}
 use Rattle.scheme.specs.declared.Mode.the-variants.{Counter, Chain}
 use Rattle.scheme.proofs.Passes.{feed-joined}

@@ -1,7 +1,7 @@
 -- Pieces of a sample (demand 3): feeding is by the byte, so a cutting doesn't matter, and what is released and held adds up.
 use mathlib.Core.Path.{_≡_, refl, sym, ap, _∙_}
 use mathlib.Core.Bool.{Bool, true, false, cond}
-use mathlib.Core.List.{List, [], _∷_, _++_, append-assoc, flatten}
+use mathlib.Core.List.{List, [], _∷_, _++_, append-assoc}
 use Prim.Native.Nat.{ℕ, zero, suc, _+_, _%_}
 use native.Mathlib.Nat.{add-zero, suc-add}
 use native.Mathlib.Omega.{arith}
@@ -68,22 +68,6 @@ module _ (E D : Cipher) (d : Direction) (k : Mode) (iv : List ℕ) (M F : List B
   unfolding feed
   feed-append t [] ys = refl
   feed-append t (x ∷ xs) ys = simp (feed-append (step E D d k iv M F t x .state) xs ys, append-assoc)
-
-  -- the pieces of a list fed one after the other
-  unfoldable pub feedAll : State → List (List ℕ) → Stepped
-  feedAll t [] = record { state = t; released = [] }
-  feedAll t (p ∷ ps) =
-      record {
-        state = feedAll (feed E D d k iv M F t p .state) ps .state;
-        released = feed E D d k iv M F t p .released ++ feedAll (feed E D d k iv M F t p .state) ps .released;
-      }
-
-  pub pieces-released : (t : State) (ps : List (List ℕ)) → feedAll t ps .released ≡ feed E D d k iv M F t (flatten ps) .released
-  unfolding feedAll feed flatten
-  pieces-released t [] = refl
-  pieces-released t (p ∷ ps) =
-      ap (λ (l : List ℕ). feed E D d k iv M F t p .released ++ l) (pieces-released (feed E D d k iv M F t p .state) ps)
-      ∙ sym (feed-append t p (flatten ps))
 
   -- what a step does to the position
   pub step-position : (t : State) (b : ℕ) → step E D d k iv M F t b .state .position ≡ suc (t .position)

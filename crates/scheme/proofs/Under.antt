@@ -23,8 +23,7 @@ use Rattle.scheme.specs.Held.{Place, Clear, Inside, place, inPlace}
 use Rattle.scheme.specs.Part as part
 use Rattle.scheme.proofs.Pieces.{Sized}
 use Rattle.scheme.proofs.Agreement.{machine-whole, released}
-use Rattle.scheme.proofs.Demand.{heldAt-is}
-use Rattle.scheme.proofs.Positions.{marks-at}
+use Rattle.scheme.proofs.Positions.{marks-at, heldAt-is}
 use Rattle.scheme.proofs.Unprotected.{held-clear, mask-clear, feed-unmarked, whole-clear}
 
 -- where no chain starts anew the constant IV is never taken

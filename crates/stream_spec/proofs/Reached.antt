@@ -23,7 +23,7 @@ use Rattle.scheme.specs.Machine.{State, Stepped, free, modeOf, feedSample}
 use Rattle.scheme.specs.Held.{heldAt}
 use Rattle.scheme.specs.Part.{entriesOf, heldUnder, feedUnder}
 use Rattle.scheme.proofs.Pieces.{heldAfter, Added, feed-append, feed-append-state, feed-position, feed-adds}
-use Rattle.scheme.proofs.Demand.{heldAt-is}
+use Rattle.scheme.proofs.Positions.{heldAt-is}
 use Rattle.scheme.proofs.Holding.{held-small, held-low}
 use Rattle.stream_spec.specs.declared.Declared.{Declared}
 use Rattle.stream_spec.specs.declared.Stream.{Stream}
