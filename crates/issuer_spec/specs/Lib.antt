@@ -1,3 +1,4 @@
 pub mod Issuer
 pub mod Grants
 pub mod Archive
+pub mod Depends

@@ -1,5 +1,5 @@
 -- Pieces of a sample (demand 3): feeding is by the byte, so a cutting doesn't matter, and what is released and held adds up.
-use mathlib.Core.Path.{_≡_, refl, sym, ap, _∙_}
+use mathlib.Core.Path.{_≡_, refl, sym, _∙_}
 use mathlib.Core.Bool.{Bool, true, false, cond}
 use mathlib.Core.List.{List, [], _∷_, _++_, append-assoc}
 use Prim.Native.Nat.{ℕ, zero, suc, _+_, _%_}
@@ -10,7 +10,8 @@ use lib.ListN.{length, getD, take, length-append}
 use borrow.Author.Tests.{eqb-true, eqb-false}
 use Rattle.modes_spec.specs.declared.Direction.{Direction}
 use Rattle.modes_spec.specs.declared.Direction.the-variants.{Lock, Open}
-use Rattle.modes_spec.specs.Modes.{Cipher, xors, blockOut}
+use Rattle.modes_spec.specs.Modes.{Cipher, Sized, xors, blockOut}
+use Rattle.modes_spec.proofs.Strings.{length-xors}
 use Rattle.scheme.specs.Layout.{count}
 use Rattle.scheme.specs.declared.Mode.{Mode}
 use Rattle.scheme.specs.declared.Mode.the-variants.{Counter, Chain}
@@ -38,16 +39,6 @@ count-marked l p e = omega (arith, rw e at (count-next l p))
 pub count-unmarked : (l : List Bool) (p : ℕ) → getD l p false ≡ false → count (take (suc p) l) ≡ count (take p l)
 unfolding count
 count-unmarked l p e = omega (arith, rw e at (count-next l p))
-
--- a cipher takes a block to a block
-abbrev pub Sized : Cipher → Type 0
-Sized E = (b : List ℕ) → length b ≡ 16 → length (E b) ≡ 16
-
-pub length-xors : (xs ys : List ℕ) → length (xors xs ys) ≡ length xs
-unfolding xors
-length-xors [] ys = refl
-length-xors (x ∷ xs) [] = refl
-length-xors (x ∷ xs) (y ∷ ys) = ap suc (length-xors xs ys)
 
 module _ (E D : Cipher) (sE : Sized E) (sD : Sized D) where
   pub length-blockOut : (d : Direction) (c b : List ℕ) → length b ≡ 16 → length (blockOut E D d c b) ≡ 16

@@ -1,2 +1,4 @@
 pub mod Stream
 pub mod Demand3
+pub mod Depends
+pub mod Samples
