@@ -142,7 +142,7 @@ module _ (q : Declared) (iv : List ℕ) where
     at-position : fed a .state .position ≡ length a
     at-position = machine-position q (free 0 iv) a ∙ zero-add (length a)
 
-    at-held : length (fed a .state .held) ≡ H q (length a)
+    pub at-held : length (fed a .state .held) ≡ H q (length a)
     at-held = machine-held q (free 0 iv) a start-fits ∙ ap (H q) (zero-add (length a))
 
     fits-at : Fits q (fed a .state)
