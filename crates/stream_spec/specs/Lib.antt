@@ -2,3 +2,4 @@ pub mod Stream
 pub mod Demand3
 pub mod Depends
 pub mod Samples
+pub mod Numbers
