@@ -5,12 +5,12 @@ use Prim.Native.Nat.{ℕ, zero, suc, _<_}
 use native.Mathlib.Omega.{arith}
 use lib.ListN.{getD}
 use Rattle.octets.proofs.Xor.{⊕-back}
-use Rattle.fips197.specs.State.{Word, State}
+use Rattle.fips197.specs.State.{Word, State, IsWord, word, IsState, state}
 use Rattle.fips197.specs.Cipher.{subByte, subBytes, shiftRows, matrix, mixColumns, addWord, addRoundKey, round, rounds, cipher}
 use Rattle.fips197.specs.InvCipher.{invSubByte, invSubBytes, invShiftRows, invMixColumns, invRound, invRounds, invCipher}
 use Rattle.fips197.proofs.SBox.{inv-sub-sub, sub-inv-sub}
 use Rattle.fips197.proofs.Lists.{same}
-use Rattle.fips197.proofs.Shape.{IsWord, word, IsState, state, bytewise, bytewise-undone, columnwise-undone, sub-state, inv-sub-state, shift-state, inv-shift-state, mix-state, inv-mix-state, add-state}
+use Rattle.fips197.proofs.Shape.{bytewise, bytewise-undone, columnwise-undone, sub-state, inv-sub-state, shift-state, inv-shift-state, mix-state, inv-mix-state, add-state}
 use Rattle.fips197.proofs.Matrix.{inv-mix-mix, mix-inv-mix}
 
 -- Each step, and what undoes it.

@@ -4,12 +4,11 @@ use Prim.Native.Nat.{ℕ, _<_}
 use Rattle.octets.specs.Xor.{_⊕_}
 use Rattle.octets.proofs.Xor.{⊕-assoc, ⊕-comm, ⊕-left-comm, ⊕-zero}
 use Rattle.fips197.specs.Field.{xtime, _·_}
-use Rattle.fips197.specs.State.{Word}
+use Rattle.fips197.specs.State.{Word, IsWord, word}
 use Rattle.fips197.specs.Cipher.{row, matrix}
 use Rattle.fips197.proofs.Bytes.{bytes-equal}
 use Rattle.fips197.proofs.Field.{·-add}
 use Rattle.fips197.proofs.Lists.{same}
-use Rattle.fips197.proofs.Shape.{IsWord, word}
 
 -- The matrix of p by that of q: what its first row takes of a byte.
 abbrev product : ℕ → ℕ → ℕ → ℕ → ℕ → ℕ → ℕ → ℕ → ℕ → ℕ

@@ -10,7 +10,7 @@ use Rattle.octets.proofs.Bytes.{getD-listOf, listOf-getD}
 use Rattle.octets.specs.Xor.{_⊕_}
 use Rattle.octets.proofs.Xor.{⊕-below}
 use Rattle.fips197.specs.Field.{_·_}
-use Rattle.fips197.specs.State.{Word, State, byte, column, four, load, store}
+use Rattle.fips197.specs.State.{Word, State, IsWord, word, IsState, state, byte, column, four, load, store}
 use Rattle.fips197.specs.Cipher.{subByte, subBytes, shiftRows, row, matrix, mixColumns, addWord, addRoundKey}
 use Rattle.fips197.specs.KeyExpansion.{rotWord, rcon, roundKey, keyExpansion, nextKey}
 use Rattle.fips197.specs.InvCipher.{invSubByte, invSubBytes, invShiftRows, invMixColumns}
@@ -18,12 +18,6 @@ use Rattle.fips197.proofs.Field.{xtime-below, ·-below}
 use Rattle.fips197.proofs.SBox.{sub-below, inv-sub-below}
 use Rattle.fips197.proofs.Lists.{same}
 use Rattle.fips197.proofs.KeyExpansion.{roundKey-zero, roundKey-next}
-
-pub data IsWord : Word → Type 0 where
-  word : {a b c d : ℕ} → a < 256 → b < 256 → c < 256 → d < 256 → IsWord (a ∷ b ∷ c ∷ d ∷ [])
-
-pub data IsState : State → Type 0 where
-  state : {a b c d : Word} → IsWord a → IsWord b → IsWord c → IsWord d → IsState (a ∷ b ∷ c ∷ d ∷ [])
 
 -- A step that goes byte by byte, and one that goes column by column.
 abbrev pub bytewise : (ℕ → ℕ) → Word → Word

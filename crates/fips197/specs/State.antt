@@ -1,6 +1,6 @@
 -- FIPS 197, section 3: bytes, words of four bytes, and the state, whose four columns are words.
-use mathlib.Core.List.{List, []}
-use Prim.Native.Nat.{ℕ, _+_, _*_, _/_, _%_}
+use mathlib.Core.List.{List, [], _∷_}
+use Prim.Native.Nat.{ℕ, _+_, _*_, _/_, _%_, _<_}
 use lib.ListN.{getD}
 use Rattle.octets.specs.Bytes.{listOf}
 
@@ -32,3 +32,10 @@ load b = four (λ c. four (λ r. getD b (r + 4 * c) 0))
 -- 3.4: out[r + 4c] = s[r, c].
 abbrev pub store : State → List ℕ
 store s = listOf 16 (λ i. cell s (i % 4) (i / 4))
+
+-- Four bytes, each below 256; four such words.
+pub data IsWord : Word → Type 0 where
+  word : {a b c d : ℕ} → a < 256 → b < 256 → c < 256 → d < 256 → IsWord (a ∷ b ∷ c ∷ d ∷ [])
+
+pub data IsState : State → Type 0 where
+  state : {a b c d : Word} → IsWord a → IsWord b → IsWord c → IsWord d → IsState (a ∷ b ∷ c ∷ d ∷ [])

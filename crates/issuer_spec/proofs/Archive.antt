@@ -94,7 +94,7 @@ module _ (bytes counts : List ℕ) (k : ℕ) (a : grantAt (start bytes .issuer) 
       (rw (l, h) (filled-sixteen (i .first) v (first-length bytes)), omega arith)
   granted-vector (refused f) = absurd (never-again i (rw f) counts k a)
 
-  pub iv-handed-on : ivOf x ≡ grantAt i counts k .vector .0
+  pub iv-handed-on : ivOf x ≡ grantAt (start bytes .issuer) counts k .vector .0
   unfolding ivOf ivRead
   iv-handed-on =
       let g = granted-vector (begun bytes) in

@@ -9,6 +9,7 @@ use Rattle.octets.specs.Answers.{answer}
 use Rattle.issuer_spec.specs.declared.Issuer.{Issuer}
 use Rattle.issuer_spec.specs.Issuer.{largest, issuer, exhausted, lastCounter, badCount, pastEnd, grantRows, startRows, start, after, grant}
 use Rattle.issuer_spec.specs.Grants.{run, grantAt}
+use Rattle.issuer_spec.specs.Depends.{AlikeIssuers}
 
 -- ---- The start.
 
@@ -40,13 +41,8 @@ pub alike-but-20 : (i j : Issuer) (ns : List ℕ) (k : ℕ) → (grantAt i ns k 
     → grantAt i ns k .answer ≡ grantAt j ns k .answer
 alike-but-20 i j ns k p q = by-count i ns k p ∙ sym (by-count j ns k q)
 
--- 20 depends on size and counter, and not on the bytes before the counter.
-pub record Alike (i j : Issuer) : Type 0 where
-  pub size : i .size ≡ j .size
-  pub counter : i .counter ≡ j .counter
-  pub used-up : i .«used_up» ≡ j .«used_up»
-
-module _ {i j : Issuer} (s : Alike i j) where
+-- 20 depends on size and counter, and not on the bytes before the counter
+module _ {i j : Issuer} (s : AlikeIssuers i j) where
   alike-last : (n : ℕ) → lastCounter i n ≡ lastCounter j n
   unfolding lastCounter
   alike-last n = rw (s .size, s .counter)
@@ -55,25 +51,25 @@ module _ {i j : Issuer} (s : Alike i j) where
   unfolding grantRows answer
   alike-answer n = rw (alike-last n, s .used-up)
 
-  alike-after : (last : ℕ) → Alike (after i last) (after j last)
+  alike-after : (last : ℕ) → AlikeIssuers (after i last) (after j last)
   unfolding after
   alike-after last = go (eqb last largest)
     where
       go : (b : Bool)
-          → Alike (cond b (issuer (i .size) (i .first) (i .counter) true) (issuer (i .size) (i .first) (last + 1) (i .«used_up»)))
+          → AlikeIssuers (cond b (issuer (i .size) (i .first) (i .counter) true) (issuer (i .size) (i .first) (last + 1) (i .«used_up»)))
           (cond b (issuer (j .size) (j .first) (j .counter) true) (issuer (j .size) (j .first) (last + 1) (j .«used_up»)))
       go true = record { size = s .size; counter = s .counter; used-up = refl }
       go false = record { size = s .size; counter = refl; used-up = s .used-up }
 
-  alike-issuers : (n : ℕ) → Alike (grant i n .issuer) (grant j n .issuer)
+  alike-issuers : (n : ℕ) → AlikeIssuers (grant i n .issuer) (grant j n .issuer)
   unfolding grant
   alike-issuers n = rw (alike-answer n, alike-last n) (go (eqb (answer (grantRows j n)) 0))
     where
-      go : (b : Bool) → Alike (cond b (after i (lastCounter j n)) i) (cond b (after j (lastCounter j n)) j)
+      go : (b : Bool) → AlikeIssuers (cond b (after i (lastCounter j n)) i) (cond b (after j (lastCounter j n)) j)
       go true = alike-after (lastCounter j n)
       go false = s
 
-pub run-alike : {i j : Issuer} → Alike i j → (ns : List ℕ) (k : ℕ) → grantAt i ns k .answer ≡ grantAt j ns k .answer
+pub run-alike : {i j : Issuer} → AlikeIssuers i j → (ns : List ℕ) (k : ℕ) → grantAt i ns k .answer ≡ grantAt j ns k .answer
 unfolding run grant
 run-alike s [] k = refl
 run-alike s (n ∷ ns) zero = alike-answer s n

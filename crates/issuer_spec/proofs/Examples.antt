@@ -32,8 +32,3 @@ eight-told : told (run (start eight .issuer) (0 ∷ 1048576 ∷ 1048577 ∷ 1 �
     ∷ (20 ∷ replicate 16 0) ∷ []
 unfolding told eight run start startRows started vector advance lastCounter grantRows after grant answer number digits filled
 eight-told = refl
-
--- A refused start grants nothing.
-refused-told : start (eight ++ eight ++ eight) .answer ≡ 31
-unfolding eight start startRows answer
-refused-told = refl

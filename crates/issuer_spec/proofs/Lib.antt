@@ -5,3 +5,4 @@ pub mod NeverTwice
 pub mod Archive
 pub mod Depends
 pub mod Examples
+pub mod Numbers

@@ -9,8 +9,8 @@ use lib.ListN.{getD}
 use borrow.Author.Tests.{eqb-true, eqb-false, ne-eqb}
 use Rattle.octets.specs.Answers.{answer}
 use Rattle.issuer_spec.specs.declared.Issuer.{Issuer}
-use Rattle.issuer_spec.specs.Issuer.{largest, mostBlocks, issuer, exhausted, vector, advance, lastCounter, grantRows, after, grant}
-use Rattle.issuer_spec.specs.Grants.{run, grantAt, advanced}
+use Rattle.issuer_spec.specs.Issuer.{largest, issuer, exhausted, advance, lastCounter, grantRows, after, grant}
+use Rattle.issuer_spec.specs.Grants.{run, grantAt, advanced, Granting}
 use Rattle.issuer_spec.proofs.Granting.{advance-some, grant-refused, grant-accepted, Accepted, accepted}
 
 -- ---- One grant.
@@ -71,14 +71,6 @@ never-again i u (n ∷ ns) (suc k) h = go (outcome i n) (never-again i u ns k)
     go (refused r e) next = next (rw e at h)
     go (further a z e) next = true≢false (sym u ∙ a .left)
     go (finished a z e) next = true≢false (sym u ∙ a .left)
-
--- What accepted grant k of a list hands out: the start vector of the first counter, advanced by the accepted ones before it. Its
--- count is allowed, and no counter that it covers passes the largest.
-pub record Granting (i : Issuer) (ns : List ℕ) (k : ℕ) : Type 0 where
-  pub handed : grantAt i ns k .vector .0 ≡ vector (i .size) (i .first) (i .counter + advanced i ns k)
-  pub some : 1 ≤ getD ns k 0
-  pub few : getD ns k 0 ≤ mostBlocks
-  pub below : i .counter + advanced i ns k + (advance (i .size) (getD ns k 0) - 1) ≤ largest
 
 -- the first of a list
 granted-first : (i : Issuer) (n : ℕ) (ns : List ℕ) → grant i n .answer ≡ 0 → Granting i (n ∷ ns) 0

@@ -1,3 +1,5 @@
 pub mod Issuer
 pub mod Grants
 pub mod Archive
+pub mod Depends
+pub mod Numbers

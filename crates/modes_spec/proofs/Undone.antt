@@ -11,24 +11,8 @@ use Rattle.octets.proofs.Xor.{⊕-back, ⊕-below}
 use Rattle.modes_spec.specs.declared.Direction.{Direction}
 use Rattle.modes_spec.specs.declared.Direction.the-variants.{Lock, Open}
 use Rattle.modes_spec.specs.Modes.{Cipher, xors, counterAt, streamByte, ctr, blockOut, blockChain, cbcBlocks, cbc}
+use Rattle.modes_spec.specs.Undone.{back, Inverse, Undoes}
 use Rattle.modes_spec.proofs.Strings.{length-xors}
-
--- The direction that undoes a direction.
-unfoldable pub back : Direction → Direction
-back Lock = Open
-back Open = Lock
-
--- Two ciphers under one key, each of which undoes the other on blocks of 16 bytes.
-pub record Inverse (E D : Cipher) : Type 0 where
-  pub deciphered : {b : List ℕ} → Bytes 16 b → D (E b) ≡ b
-  pub enciphered : {b : List ℕ} → Bytes 16 b → E (D b) ≡ b
-  pub encipher-bytes : {b : List ℕ} → Bytes 16 b → Bytes 16 (E b)
-  pub decipher-bytes : {b : List ℕ} → Bytes 16 b → Bytes 16 (D b)
-
--- f makes of bytes as many bytes, and g gives them back.
-pub record Undoes (g f : List ℕ → List ℕ) : Type 0 where
-  pub keeps : {n : ℕ} {xs : List ℕ} → Bytes n xs → Bytes n (f xs)
-  pub undone : {n : ℕ} {xs : List ℕ} → Bytes n xs → g (f xs) ≡ xs
 
 pub same-undone : Undoes (λ xs. xs) (λ xs. xs)
 same-undone = record { keeps = λ b. b; undone = λ b. refl }

@@ -1,6 +1,7 @@
 -- NIST SP 800-38A, sections 6.5 and 6.2: the counter mode, with the 64-bit counter of ISO/IEC 23001-7, 9.3, and cipher block
 -- chaining; both over any block function.
 use mathlib.Core.List.{List, [], _∷_, _++_}
+use mathlib.Core.Path.{_≡_}
 use Prim.Native.Nat.{ℕ, zero, suc, _+_, _/_, _%_, _^_}
 use lib.ListN.{length, getD, take, drop}
 use Rattle.octets.specs.Bytes.{number, digits}
@@ -11,6 +12,10 @@ use Rattle.modes_spec.specs.declared.Direction.the-variants.{Lock, Open}
 -- A block cipher under one key: a block in, a block out.
 abbrev pub Cipher : Type 0
 Cipher = List ℕ → List ℕ
+
+-- It takes 16 bytes to 16 bytes.
+abbrev pub Sized : Cipher → Type 0
+Sized E = (b : List ℕ) → length b ≡ 16 → length (E b) ≡ 16
 
 -- The exclusive or of two strings, as long as the second reaches.
 unfoldable pub xors : List ℕ → List ℕ → List ℕ

@@ -13,7 +13,7 @@ use Rattle.octets.proofs.Answers.{done-head, done-tail}
 use Rattle.octets.proofs.OfBytes.{bytes-take, filled-length, filled-bytes}
 use Rattle.aes.specs.Block.{roundKeys, encipher, decipher, encipher-length, decipher-length}
 use Rattle.modes_spec.specs.declared.Direction.{Direction}
-use Rattle.modes_spec.specs.Modes.{Cipher}
+use Rattle.modes_spec.specs.Modes.{Cipher, Sized}
 use Rattle.track_spec.specs.declared.Parameters.{Parameters}
 use Rattle.track_spec.specs.Track.{known, hasConstant, allowed, fieldsFrom, fields}
 use Rattle.track_spec.proofs.Fields.{constant-length, constant-bytes}
@@ -21,10 +21,9 @@ use Rattle.track_spec.proofs.RoundTrip.{accepted}
 use Rattle.subsample_spec.specs.declared.SubsampleMap.{SubsampleMap}
 use Rattle.subsample_spec.specs.Auxiliary.{limit, longest, mapRows, mapRead, ivLength, ivRead, auxiliaryRows}
 use Rattle.scheme.specs.Layout.{schemeOf, patternOf, isCiphered, total}
-use Rattle.scheme.specs.Part.{entriesOf, ciphered, fits, transformed}
-use Rattle.scheme.proofs.Pieces.{Sized}
+use Rattle.scheme.specs.Part.{entriesOf, ciphered, fits, transformed, Begins}
 use Rattle.scheme.proofs.Allowed.{cbcs-constant, allowed-protected, allowed-first, protected-total, accepted-total}
-use Rattle.scheme.proofs.Under.{Begins, clear-ciphered, fed-whole}
+use Rattle.scheme.proofs.Under.{clear-ciphered, fed-whole}
 use Rattle.scheme.proofs.Fitting.{fits-whole, transformed-clear}
 use Rattle.sample_spec.specs.declared.InputsRead.{InputsRead}
 use Rattle.sample_spec.specs.Sample.{Inputs, OfBytes, parametersOf, keyOf, mapOf, ivOf, sampleRows, handedOut, readInputs, cipheredBy, sampleAfter}

@@ -1,18 +1,25 @@
--- Of every accepted sample: no counter block occurs twice.
-use mathlib.Core.List.{[]}
-use mathlib.Core.Path.{_≡_}
+-- Of every accepted sample: its key stream comes from the counter blocks listed for it, and none of them occurs twice.
+use mathlib.Core.Bool.{true, false}
+use mathlib.Core.List.{List, []}
+use mathlib.Core.Path.{_≡_, sym, _∙_}
 use Prim.Native.Nat.{ℕ, _+_, _/_, _≤_, _<_}
 use native.Mathlib.Omega.{arith}
-use lib.ListN.{getD}
+use lib.ListN.{length, getD, take}
 use Rattle.octets.specs.Answers.{answer}
+use Rattle.octets.specs.Xor.{_⊕_}
+use Rattle.aes.specs.Block.{roundKeys, encipher, decipher}
+use Rattle.modes_spec.specs.declared.Direction.{Direction}
 use Rattle.modes_spec.specs.Modes.{counterAt}
+use Rattle.scheme.specs.declared.Mode.the-variants.{Counter}
 use Rattle.scheme.specs.declared.Pattern.{Pattern}
 use Rattle.scheme.specs.declared.Scheme.{Scheme}
-use Rattle.scheme.specs.Layout.{schemeOf, patternOf, total}
-use Rattle.scheme.specs.Counters.{blocksNeeded}
+use Rattle.scheme.specs.Layout.{schemeOf, patternOf, total, count}
+use Rattle.scheme.specs.Machine.{modeOf}
+use Rattle.scheme.specs.Part.{ciphered}
+use Rattle.scheme.specs.Counters.{blocksNeeded, keyStreamByte}
 use Rattle.scheme.proofs.Counters as counters
-use Rattle.sample_spec.specs.Sample.{Inputs, parametersOf, ivOf, sampleRows}
-use Rattle.sample_spec.specs.Counters.{entriesFor, neededFor, blocksFor}
+use Rattle.sample_spec.specs.Sample.{Inputs, parametersOf, keyOf, ivOf, sampleRows, cipheredBy, sampleAfter}
+use Rattle.sample_spec.specs.Counters.{entriesFor, markedFor, neededFor, blocksFor}
 use Rattle.sample_spec.proofs.Accepted.{iv-length, length-allowed, accepted-length}
 
 module _ (i : Inputs) (n : ℕ) (h : answer (sampleRows i n) ≡ 0) where
@@ -42,3 +49,14 @@ module _ (i : Inputs) (n : ℕ) (h : answer (sampleRows i n) ≡ 0) where
     pub no-block-listed-twice : getD (blocksFor i n) j [] ≡ getD (blocksFor i n) k [] → j ≡ k
     no-block-listed-twice =
         counters.no-block-listed-twice scheme pattern (entriesFor i n) fits (ivOf i) (omega (arith, iv-length i)) j k hj hk
+
+  -- In a counter scheme a ciphered byte, the j-th, is added to byte j of the key stream that the blocks listed give.
+  pub key-stream-listed : modeOf (schemeOf (parametersOf i .code)) ≡ Counter → (d : Direction) (xs : List ℕ) → length xs ≡ n → (x : ℕ)
+      → getD (markedFor i n) x false ≡ true
+      → getD (sampleAfter d i xs) x 0
+      ≡ getD xs x 0 ⊕ keyStreamByte (encipher (roundKeys (keyOf i))) (blocksFor i n) (count (take x (markedFor i n)))
+  unfolding sampleAfter cipheredBy ciphered
+  key-stream-listed k d xs l x m =
+      rw (l, h)
+      (counters.key-stream-listed (encipher (roundKeys (keyOf i))) (decipher (roundKeys (keyOf i))) (ivOf i) pattern (entriesFor i n) d xs
+      (l ∙ sym (accepted-length i n h)) x scheme k m)

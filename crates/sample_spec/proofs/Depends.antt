@@ -1,33 +1,24 @@
 -- What the answer of a whole-sample call depends on: not on key bytes, IV bytes or the sample's contents.
 use mathlib.Core.Path.{_≡_, ap, _∙_}
 use mathlib.Core.List.{List}
-use Prim.Native.Nat.{ℕ, _≤_, _<_}
+use Prim.Native.Nat.{ℕ}
 use native.Mathlib.Omega.{arith}
-use lib.ListN.{length, getD}
+use lib.ListN.{length}
 use Rattle.octets.specs.Answers.{answer}
 use Rattle.octets.proofs.Alike.{part-alike, filled-alike}
 use Rattle.octets.proofs.Answers.{join-alike}
 use Rattle.track_spec.specs.Track.{fieldsFrom, fields}
 use Rattle.track_spec.proofs.Checking.{read-refusals}
-use Rattle.track_spec.proofs.Depends.{Alike, read-alike}
-use Rattle.subsample_spec.proofs.Depends.{AlikeData, fields-alike, map-alike, auxiliary-alike}
+use Rattle.track_spec.specs.Depends.{AlikeBoxes}
+use Rattle.track_spec.proofs.Depends.{read-alike}
+use Rattle.subsample_spec.specs.Depends.{AlikeData}
+use Rattle.subsample_spec.proofs.Depends.{fields-alike, map-alike, auxiliary-alike}
 use Rattle.sample_spec.specs.Sample.{Inputs, keyRows, parametersOf, mapOf, sampleRows}
+use Rattle.sample_spec.specs.Depends.{AlikeInputs}
 use Rattle.sample_spec.proofs.Tables.{key-refusals}
 
--- Inputs of two calls that differ at most in the bytes of the constant IV, of the IV in the auxiliary data, and of the key: they
--- have one code, the boxes have one length and agree in their first 33 bytes, the data have one length and agree after the IV, and
--- the key records have one length and agree in the KID.
-pub record AlikeInputs (i j : Inputs) : Type 0 where
-  pub code : i .code ≡ j .code
-  pub box-size : length (i .box) ≡ length (j .box)
-  pub box-front : (k : ℕ) → k < 33 → getD (i .box) k 0 ≡ getD (j .box) k 0
-  pub data-size : length (i .auxiliary) ≡ length (j .auxiliary)
-  pub data-after : (k : ℕ) → getD (i .box) 15 0 ≤ k → getD (i .auxiliary) k 0 ≡ getD (j .auxiliary) k 0
-  pub record-size : length (i .keys) ≡ length (j .keys)
-  pub record-front : (k : ℕ) → k < 16 → getD (i .keys) k 0 ≡ getD (j .keys) k 0
-
 module _ {i j : Inputs} (s : AlikeInputs i j) where
-  pub boxes-alike : Alike (i .box) (j .box)
+  pub boxes-alike : AlikeBoxes (i .box) (j .box)
   boxes-alike =
       record { size = s .box-size; front = λ k h. s .box-front k (omega arith); constant-size = s .box-front 32 (omega arith) }
 

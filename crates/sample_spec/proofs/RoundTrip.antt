@@ -6,21 +6,21 @@ use Prim.Native.Nat.{ℕ, _<_}
 use lib.Dec.{eqb}
 use lib.ListN.{length, getD, drop}
 use borrow.Author.Tests.{eqb-true, eqb-false, ne-eqb}
-use Rattle.octets.specs.Answers.{answer}
 use Rattle.octets.specs.Bytes.{Bytes, filled}
 use Rattle.octets.proofs.OfBytes.{bytes-drop, zeros-bytes, filled-bytes}
 use Rattle.aes.specs.Block.{roundKeys, encipher, decipher, encipher-bytes, decipher-bytes, decipher-encipher, encipher-decipher}
 use Rattle.modes_spec.specs.declared.Direction.{Direction}
 use Rattle.modes_spec.specs.Modes.{Cipher}
-use Rattle.modes_spec.proofs.Undone.{back, Inverse}
+use Rattle.modes_spec.specs.Undone.{back, Inverse}
 use Rattle.track_spec.specs.declared.Parameters.{Parameters}
 use Rattle.track_spec.specs.Track.{zeros}
 use Rattle.subsample_spec.specs.declared.SubsampleMap.{SubsampleMap}
-use Rattle.scheme.specs.Layout.{schemeOf, patternOf, mask}
+use Rattle.scheme.specs.Layout.{schemeOf, patternOf}
 use Rattle.scheme.specs.Part.{entriesOf, ciphered}
 use Rattle.scheme.proofs.Undone.{whole-back, length-whole, unmarked-stay}
 use Rattle.scheme.proofs.Under.{clear-ciphered}
-use Rattle.sample_spec.specs.Sample.{Inputs, OfBytes, keyIn, parametersOf, keyOf, mapOf, ivOf, sampleRows, cipheredBy, sampleAfter}
+use Rattle.sample_spec.specs.Sample.{Inputs, OfBytes, keyIn, parametersOf, keyOf, mapOf, ivOf, answered, cipheredBy, sampleAfter}
+use Rattle.sample_spec.specs.Counters.{markedFor}
 use Rattle.sample_spec.proofs.Accepted.{begins, after-refusal}
 
 -- the block under a key of 16 bytes
@@ -56,30 +56,22 @@ module _ (E D : Cipher) (d : Direction) (p : Parameters) (m : SubsampleMap) (iv 
       (whole-back v w (patternOf p) (entriesOf p m (length xs)) d (schemeOf (p .code)) (record { size = refl; small = hx }))
 
 module _ (i : Inputs) where
-  -- The answer of a call with a sample of n bytes, for either direction.
-  abbrev answered : ℕ → ℕ
-  answered n = answer (sampleRows i n)
-
-  -- For each byte of a sample of n bytes, whether it is ciphered.
-  abbrev marked : ℕ → List Bool
-  marked n = mask (schemeOf (parametersOf i .code)) (patternOf (parametersOf i)) (entriesOf (parametersOf i) (mapOf i) n)
-
   module _ (d : Direction) (xs : List ℕ) where
-    accepted-after : answered (length xs) ≡ 0 → sampleAfter d i xs ≡ cipheredBy d i xs
+    accepted-after : answered i (length xs) ≡ 0 → sampleAfter d i xs ≡ cipheredBy d i xs
     unfolding sampleAfter
     accepted-after h = rw h
 
     -- A refused call changes nothing.
-    pub refused-stays : (answered (length xs) ≡ 0 → ⊥) → sampleAfter d i xs ≡ xs
+    pub refused-stays : (answered i (length xs) ≡ 0 → ⊥) → sampleAfter d i xs ≡ xs
     refused-stays h = after-refusal d i xs h
 
     -- what holds of the sample ciphered, where the call is accepted, and of the sample as it was holds after the call
-    either : (P : List ℕ → Type 0) → (answered (length xs) ≡ 0 → P (cipheredBy d i xs)) → P xs → P (sampleAfter d i xs)
+    either : (P : List ℕ → Type 0) → (answered i (length xs) ≡ 0 → P (cipheredBy d i xs)) → P xs → P (sampleAfter d i xs)
     unfolding sampleAfter
-    either P done refused = go (eqb (answered (length xs)) 0) refl
+    either P done refused = go (eqb (answered i (length xs)) 0) refl
       where
-        go : (t : Bool) → eqb (answered (length xs)) 0 ≡ t → P (cond t (cipheredBy d i xs) xs)
-        go true e = done (eqb-true (answered (length xs)) 0 e)
+        go : (t : Bool) → eqb (answered i (length xs)) 0 ≡ t → P (cond t (cipheredBy d i xs) xs)
+        go true e = done (eqb-true (answered i (length xs)) 0 e)
         go false e = refused
 
     -- No byte comes or goes.
@@ -90,11 +82,11 @@ module _ (i : Inputs) where
         (λ h. length-ciphered _ _ d (parametersOf i) (mapOf i) (ivOf i) xs) refl
 
     -- The answer depends on the length alone, and not on the direction: the call that undoes this one gets the same.
-    pub answer-after : answered (length (sampleAfter d i xs)) ≡ answered (length xs)
-    answer-after = ap answered length-after
+    pub answer-after : answered i (length (sampleAfter d i xs)) ≡ answered i (length xs)
+    answer-after = ap (answered i) length-after
 
     -- A byte that is not marked never changes.
-    pub unmarked-stays : (k : ℕ) → getD (marked (length xs)) k false ≡ false → getD (sampleAfter d i xs) k 0 ≡ getD xs k 0
+    pub unmarked-stays : (k : ℕ) → getD (markedFor i (length xs)) k false ≡ false → getD (sampleAfter d i xs) k 0 ≡ getD xs k 0
     unfolding cipheredBy ciphered
     unmarked-stays k m =
         either (λ (ys : List ℕ). getD ys k 0 ≡ getD xs k 0)
@@ -112,7 +104,7 @@ module _ (i : Inputs) where
 
   -- Opening a locked sample and locking an opened one give every byte back; so do two refused calls.
   module _ (b : OfBytes i) (hk : (k : ℕ) → getD (i .keys) k 0 < 256) where
-    ciphered-again : (d : Direction) (xs : List ℕ) → answered (length xs) ≡ 0 → ((k : ℕ) → getD xs k 0 < 256)
+    ciphered-again : (d : Direction) (xs : List ℕ) → answered i (length xs) ≡ 0 → ((k : ℕ) → getD xs k 0 < 256)
         → cipheredBy (back d) i (cipheredBy d i xs) ≡ xs
     unfolding cipheredBy keyOf
     ciphered-again d xs h hx =
@@ -121,13 +113,13 @@ module _ (i : Inputs) where
 
     pub given-back : (d : Direction) (xs : List ℕ) → ((k : ℕ) → getD xs k 0 < 256)
         → sampleAfter (back d) i (sampleAfter d i xs) ≡ xs
-    given-back d xs hx = go (eqb (answered (length xs)) 0) refl
+    given-back d xs hx = go (eqb (answered i (length xs)) 0) refl
       where
-        go : (t : Bool) → eqb (answered (length xs)) 0 ≡ t → sampleAfter (back d) i (sampleAfter d i xs) ≡ xs
+        go : (t : Bool) → eqb (answered i (length xs)) 0 ≡ t → sampleAfter (back d) i (sampleAfter d i xs) ≡ xs
         go true e =
-            let h : answered (length xs) ≡ 0 = eqb-true (answered (length xs)) 0 e in
+            let h : answered i (length xs) ≡ 0 = eqb-true (answered i (length xs)) 0 e in
             accepted-after (back d) (sampleAfter d i xs) (answer-after d xs ∙ h)
             ∙ ap (λ (ys : List ℕ). cipheredBy (back d) i ys) (accepted-after d xs h) ∙ ciphered-again d xs h hx
         go false e =
-            let h : (answered (length xs) ≡ 0) → ⊥ = eqb-false (answered (length xs)) 0 e in
+            let h : (answered i (length xs) ≡ 0) → ⊥ = eqb-false (answered i (length xs)) 0 e in
             ap (sampleAfter (back d) i) (refused-stays d xs h) ∙ refused-stays (back d) xs h

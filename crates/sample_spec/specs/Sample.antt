@@ -72,6 +72,10 @@ unfoldable pub sampleRows : Inputs → ℕ → List Row
 sampleRows i n =
     readRows (i .code) (i .box) ++ (keyRows (parametersOf i) (i .keys) ++ auxiliaryRows (parametersOf i) (i .auxiliary) n)
 
+-- What a call with a sample of n bytes answers, in either direction.
+abbrev pub answered : Inputs → ℕ → ℕ
+answered i n = answer (sampleRows i n)
+
 -- What is handed out with an answer: what the inputs say, or after a refusal what an empty unprotected track would.
 unfoldable pub handedOut : ℕ → Inputs → InputsRead
 handedOut answer i =

@@ -1,4 +1,4 @@
--- The machine of Stream gives what Whole defines.
+-- The machine over a whole sample (specs/Machine) releases what the whole-sample definition (specs/WholeSample) makes of it.
 use mathlib.Core.Path.{_≡_, refl, sym, ap, _∙_}
 use mathlib.Core.Bool.{Bool, true, false, cond, _&&_}
 use mathlib.Core.List.{List, [], _∷_, _++_, append-assoc, append-nil}
@@ -16,11 +16,11 @@ use Rattle.scheme.specs.declared.Scheme.{Scheme}
 use Rattle.scheme.specs.declared.Scheme.the-variants.{Cenc, Cbc1, Cens, Cbcs}
 use Rattle.scheme.specs.Layout.{period, Entry, total, inWholeBlock, inCryptRun, tabulate, isCiphered, rangeMarks, marks, mask, restarts, restartMask, chosen, replaced, count}
 use Rattle.modes_spec.specs.declared.Direction.{Direction}
-use Rattle.modes_spec.specs.Modes.{Cipher, counterAt, streamByte, ctr, blockOut, blockChain, cbcBlocks, cbc}
+use Rattle.modes_spec.specs.Modes.{Cipher, counterAt, streamByte, ctr, blockOut, blockChain, cbcBlocks, cbc, Sized}
 use Rattle.scheme.specs.WholeSample.{over, overEach, whole}
 use Rattle.octets.specs.Bytes.{Bytes}
 use Rattle.modes_spec.proofs.Counter.{steps, no-step}
-use Rattle.scheme.proofs.Pieces.{cond-law, count-marked, count-unmarked, Sized, length-blockOut, feed-append, feed-position, heldAfter, Added, feed-adds}
+use Rattle.scheme.proofs.Pieces.{cond-law, count-marked, count-unmarked, length-blockOut, feed-append, feed-position, heldAfter, Added, feed-adds}
 use Rattle.scheme.specs.declared.Mode.{Mode}
 use Rattle.scheme.specs.declared.Mode.the-variants.{Counter, Chain}
 use Rattle.scheme.specs.Machine.{free, State, Stepped, modeOf, chainAt, plain, counted, chained, cipheredStep, step, feed, feedSample}
@@ -37,7 +37,7 @@ module _ (l : List Bool) (p : ℕ) (m : Bool) (ms : List Bool) (h : drop p l ≡
 pub drop-part : (l : List Bool) (p n : ℕ) (ms ns : List Bool) → length ms ≡ n → drop p l ≡ ms ++ ns → drop (p + n) l ≡ ns
 drop-part l p n ms ns h e = sym (drop-drop n p l) ∙ ap (drop n) e ∙ drop-at ms ns n h
 
--- ---- the counter modeOf
+-- ---- the counter mode
 
 -- after a ciphered byte: the counter block is raised at each 16th
 module _ (iv : List ℕ) (long : 8 ≤ length iv) where
@@ -66,7 +66,7 @@ module _ (E D : Cipher) (d : Direction) (iv : List ℕ) (M F : List Bool) (long 
       (ap (λ (ys : List ℕ). x ⊕ (streamByte E iv r) ∷ ys) (counter-feed xs ms (suc p) h (suc r) (drop-tail M p true ms at)
       (suc-inj l) (count-marked M p (drop-head M p true ms at) ∙ ap suc er)))
 
--- ---- the chain modeOf: CBC over the marked bytes, block by block
+-- ---- the chain mode: CBC over the marked bytes, block by block
 
 chosen-run : (b ys : List ℕ) (ms : List Bool) → chosen (replicate (length b) true ++ ms) (b ++ ys) ≡ b ++ chosen ms ys
 unfolding chosen
@@ -288,10 +288,14 @@ pub length-range : (f : ℕ → ℕ → Bool) (n : ℕ) → length (rangeMarks f
 unfolding rangeMarks
 length-range f n = length-tabulate (f n) 0 n
 
-pub length-marks : (f : ℕ → ℕ → Bool) (es : List Entry) → length (marks f es) ≡ total es
+length-marks : (f : ℕ → ℕ → Bool) (es : List Entry) → length (marks f es) ≡ total es
 unfolding marks total
 length-marks f [] = refl
 length-marks f (e ∷ es) = simp (length-append, length-replicate, length-range, length-marks f es)
+
+pub length-mask : (s : Scheme) (pattern : Pattern) (es : List Entry) → length (mask s pattern es) ≡ total es
+unfolding mask
+length-mask s pattern es = length-marks (isCiphered s pattern) es
 
 module _ (E D : Cipher) (sE : Sized E) (sD : Sized D) (d : Direction) (iv : List ℕ) (pattern : Pattern) where
   -- cbc1: the whole mask at once
@@ -347,7 +351,7 @@ module _ (E D : Cipher) (sE : Sized E) (sD : Sized D) (d : Direction) (iv : List
         (drop-part F p (a + b) (replicate a false ++ rangeMarks (restarts Cbcs) b) (restartMask Cbcs es)
         (simp (length-append, length-replicate, length-range)) (simp append-assoc eF))))
 
--- ---- the machine-whole: a whole sample fed to the machine comes out as Whole defines it
+-- ---- a whole sample fed to the machine comes out as the whole-sample definition makes it
 
 -- nothing is held at first
 sound-start : (k : Mode) → 0 ≡ heldAfter k 0
@@ -355,50 +359,42 @@ unfolding heldAfter
 sound-start Counter = refl
 sound-start Chain = refl
 
--- the state that a stream starts in
-abbrev pub start : List ℕ → State
-start iv = free 0 iv
-
 module _ (E D : Cipher) (sE : Sized E) (sD : Sized D) (d : Direction) (iv : List ℕ) (bytes : Bytes 16 iv)
     (pattern : Pattern) (es : List Entry) where
-  length-mask : (s : Scheme) → length (mask s pattern es) ≡ total es
-  unfolding mask
-  length-mask s = length-marks (isCiphered s pattern) es
-
   counter-sample : (M F : List Bool) (xs : List ℕ) → length xs ≡ length M
-      → feed E D d Counter iv M F (start iv) xs .released ≡ over (ctr E iv 0) M xs
+      → feed E D d Counter iv M F (free 0 iv) xs .released ≡ over (ctr E iv 0) M xs
   unfolding count
   counter-sample M F xs l =
       rw (no-step iv (bytes .size) (bytes .small)) at (counter-feed E D d iv M F
       (omega (arith, bytes .size)) xs M 0 [] 0 refl l refl)
 
   pub machine-whole : (s : Scheme) → isCiphered s pattern 16 0 ≡ true → (xs : List ℕ) → length xs ≡ total es
-      → feedSample E D d s pattern iv es (start iv) xs .released ≡ whole E D iv pattern es d s xs
+      → feedSample E D d s pattern iv es (free 0 iv) xs .released ≡ whole E D iv pattern es d s xs
   unfolding feedSample modeOf whole
-  machine-whole Cenc a xs l = counter-sample (mask Cenc pattern es) (restartMask Cenc es) xs (l ∙ sym (length-mask Cenc))
-  machine-whole Cbc1 a xs l = cbc1-feed E D sE sD d iv pattern es iv xs (l ∙ sym (length-mask Cbc1))
-  machine-whole Cens a xs l = counter-sample (mask Cens pattern es) (restartMask Cens es) xs (l ∙ sym (length-mask Cens))
+  machine-whole Cenc a xs l = counter-sample (mask Cenc pattern es) (restartMask Cenc es) xs (l ∙ sym (length-mask Cenc pattern es))
+  machine-whole Cbc1 a xs l = cbc1-feed E D sE sD d iv pattern es iv xs (l ∙ sym (length-mask Cbc1 pattern es))
+  machine-whole Cens a xs l = counter-sample (mask Cens pattern es) (restartMask Cens es) xs (l ∙ sym (length-mask Cens pattern es))
   machine-whole Cbcs a xs l =
       cbcs-feed E D sE sD d iv pattern (mask Cbcs pattern es) (restartMask Cbcs es) a es xs 0 iv l refl refl
 
   -- what has been released at position x is the beginning of the whole sample's result, but for the bytes held
   pub released : (s : Scheme) → isCiphered s pattern 16 0 ≡ true → (xs : List ℕ) → length xs ≡ total es → (x : ℕ)
       → x ≤ length xs
-      → feedSample E D d s pattern iv es (start iv) (take x xs) .released
+      → feedSample E D d s pattern iv es (free 0 iv) (take x xs) .released
       ≡ take (x - heldAfter (modeOf s) (count (take x (mask s pattern es)))) (whole E D iv pattern es d s xs)
   unfolding feedSample count
   released s a xs l x u =
       let M : List Bool = mask s pattern es in
       let F : List Bool = restartMask s es in
-      let first : Stepped = feed E D d (modeOf s) iv M F (start iv) (take x xs) in
+      let first : Stepped = feed E D d (modeOf s) iv M F (free 0 iv) (take x xs) in
       let rest : List ℕ = feed E D d (modeOf s) iv M F (first .state) (drop x xs) .released in
       let w : whole E D iv pattern es d s xs ≡ first .released ++ rest =
       sym (machine-whole s a xs l)
-      ∙ (rw (take-append-drop x xs) at (feed-append E D d (modeOf s) iv M F (start iv) (take x xs) (drop x xs))) in
+      ∙ (rw (take-append-drop x xs) at (feed-append E D d (modeOf s) iv M F (free 0 iv) (take x xs) (drop x xs))) in
       let added : Added (modeOf s) M (length {A = ℕ} [] + length (take x xs)) first =
-      feed-adds E D sE sD d iv M F (modeOf s) (start iv) (take x xs) (sound-start (modeOf s)) in
+      feed-adds E D sE sD d iv M F (modeOf s) (free 0 iv) (take x xs) (sound-start (modeOf s)) in
       let size : length (take x xs) ≡ x = length-take-le x xs u in
       let at : first .state .position ≡ x =
-      feed-position E D d (modeOf s) iv M F (start iv) (take x xs) ∙ (rw size (zero-add x)) in
+      feed-position E D d (modeOf s) iv M F (free 0 iv) (take x xs) ∙ (rw size (zero-add x)) in
       let held : length (first .state .held) ≡ heldAfter (modeOf s) (count (take x M)) = rw at at (added .sound) in
       rw w (sym (take-at (first .released) rest (x - heldAfter (modeOf s) (count (take x M))) (omega (arith, added .sum))))

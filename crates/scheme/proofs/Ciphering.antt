@@ -1,4 +1,4 @@
--- What a run of ciphered bytes gives, of either modeOf.
+-- What a run of ciphered bytes gives, in either mode.
 use mathlib.Core.Path.{_≡_, _∙_}
 use mathlib.Core.Bool.{Bool, true, false, cond}
 use mathlib.Core.List.{List, _++_}
@@ -6,9 +6,8 @@ use Prim.Native.Nat.{ℕ, _+_, _-_, _*_, _/_, _%_, _<_}
 use native.Mathlib.Omega.{arith}
 use lib.ListN.{length, replicate}
 use Rattle.modes_spec.specs.declared.Direction.{Direction}
-use Rattle.modes_spec.specs.Modes.{Cipher, counterAt, ctr, cbc, chainEnd}
+use Rattle.modes_spec.specs.Modes.{Cipher, counterAt, ctr, cbc, chainEnd, Sized}
 use Rattle.octets.specs.Bytes.{Bytes}
-use Rattle.scheme.proofs.Pieces.{Sized}
 use Rattle.scheme.specs.declared.Mode.{Mode}
 use Rattle.scheme.specs.declared.Mode.the-variants.{Counter, Chain}
 use Rattle.scheme.proofs.Passes.{passes-ctr, passes-cbc}

@@ -14,13 +14,12 @@ use Rattle.scheme.specs.declared.Pattern.{Pattern}
 use Rattle.scheme.specs.declared.Scheme.{Scheme}
 use Rattle.scheme.specs.declared.Scheme.the-variants.{Cenc, Cbc1, Cens, Cbcs}
 use Rattle.scheme.specs.Layout.{Entry, total, inWholeBlock, inCryptRun, isCiphered, marks, mask, restartMask, count}
-use Rattle.modes_spec.specs.Modes.{Cipher}
-use Rattle.scheme.proofs.Pieces.{cond-law, Sized, heldAfter, Added, feed-adds, feed-position}
+use Rattle.modes_spec.specs.Modes.{Cipher, Sized}
+use Rattle.scheme.proofs.Pieces.{cond-law, heldAfter, Added, feed-adds, feed-position}
 use Rattle.scheme.proofs.Agreement.{drop-head, drop-tail}
 use Rattle.scheme.specs.Machine.{free, State, Stepped, modeOf, chained, cipheredStep, step, feed, feedSample}
 use Rattle.scheme.specs.Held.{Place, Clear, Inside, place, inPlace, inBlock, heldAt}
-use Rattle.scheme.proofs.Positions.{place-law, marks-at}
-use Rattle.scheme.proofs.Demand.{heldAt-is}
+use Rattle.scheme.proofs.Positions.{place-law, marks-at, heldAt-is}
 use Rattle.scheme.specs.declared.Mode.{Mode}
 use Rattle.scheme.specs.declared.Mode.the-variants.{Counter, Chain}
 use Rattle.scheme.proofs.Passes.{feed-joined}

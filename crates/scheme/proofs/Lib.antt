@@ -1,7 +1,6 @@
 pub mod Pieces
 pub mod Agreement
 pub mod Positions
-pub mod Demand
 pub mod Passes
 pub mod Holding
 pub mod Runs

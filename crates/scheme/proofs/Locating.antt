@@ -15,11 +15,10 @@ use Rattle.scheme.specs.declared.Scheme.the-variants.{Cenc, Cbc1, Cens, 
 use Rattle.scheme.specs.Layout.{Entry, entry, isCiphered, rangeMarks, marks, mask, count}
 use Rattle.scheme.proofs.Agreement.{length-range}
 use Rattle.scheme.specs.Held.{Clear, Inside, place, inPlace, inBlock, heldAt}
-use Rattle.scheme.proofs.Positions.{rank-block, count-run, count-none, count-after}
+use Rattle.scheme.proofs.Positions.{rank-block, count-run, count-none, count-after, heldAt-is}
 use Rattle.scheme.specs.Machine.{modeOf}
 use Rattle.scheme.specs.Walk.{Located, everyByte}
 use Rattle.scheme.proofs.Pieces.{heldAfter}
-use Rattle.scheme.proofs.Demand.{heldAt-is}
 use Rattle.scheme.proofs.Holding.{held-counter}
 use Rattle.scheme.proofs.Ranges.{run-marks}
 

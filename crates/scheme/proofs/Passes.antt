@@ -9,11 +9,11 @@ use native.Mathlib.Omega.{arith}
 use lib.ListN.{length, getD, take, drop, replicate, length-append, length-replicate, take-append-drop, length-drop, replicate-append-replicate}
 use lib.Seq.{take-add, take-at, length-take-le}
 use Rattle.modes_spec.specs.declared.Direction.{Direction}
-use Rattle.modes_spec.specs.Modes.{Cipher, counterAt, streamByte, ctr, blockOut, blockChain, cbc, chainEnd}
+use Rattle.modes_spec.specs.Modes.{Cipher, counterAt, streamByte, ctr, blockOut, blockChain, cbc, chainEnd, Sized}
 use Rattle.octets.specs.Bytes.{Bytes}
 use Rattle.modes_spec.proofs.Counter.{no-step}
 use Rattle.modes_spec.proofs.Chained.{cbc-step, end-step, cbc-rest, end-rest}
-use Rattle.scheme.proofs.Pieces.{Sized, count-marked}
+use Rattle.scheme.proofs.Pieces.{count-marked}
 use Rattle.scheme.proofs.Agreement.{next-block, drop-head, drop-tail, drop-part, block-feed}
 use Rattle.scheme.specs.Machine.{free, State, plain, counted, cipheredStep, step, feed}
 use Rattle.scheme.specs.Walk.{left, Passes}

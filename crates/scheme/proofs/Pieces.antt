@@ -1,7 +1,7 @@
 -- Pieces of a sample (demand 3): feeding is by the byte, so a cutting doesn't matter, and what is released and held adds up.
-use mathlib.Core.Path.{_≡_, refl, sym, ap, _∙_}
+use mathlib.Core.Path.{_≡_, refl, sym, _∙_}
 use mathlib.Core.Bool.{Bool, true, false, cond}
-use mathlib.Core.List.{List, [], _∷_, _++_, append-assoc, flatten}
+use mathlib.Core.List.{List, [], _∷_, _++_, append-assoc}
 use Prim.Native.Nat.{ℕ, zero, suc, _+_, _%_}
 use native.Mathlib.Nat.{add-zero, suc-add}
 use native.Mathlib.Omega.{arith}
@@ -10,7 +10,8 @@ use lib.ListN.{length, getD, take, length-append}
 use borrow.Author.Tests.{eqb-true, eqb-false}
 use Rattle.modes_spec.specs.declared.Direction.{Direction}
 use Rattle.modes_spec.specs.declared.Direction.the-variants.{Lock, Open}
-use Rattle.modes_spec.specs.Modes.{Cipher, xors, blockOut}
+use Rattle.modes_spec.specs.Modes.{Cipher, Sized, xors, blockOut}
+use Rattle.modes_spec.proofs.Strings.{length-xors}
 use Rattle.scheme.specs.Layout.{count}
 use Rattle.scheme.specs.declared.Mode.{Mode}
 use Rattle.scheme.specs.declared.Mode.the-variants.{Counter, Chain}
@@ -39,16 +40,6 @@ pub count-unmarked : (l : List Bool) (p : ℕ) → getD l p false ≡ false → 
 unfolding count
 count-unmarked l p e = omega (arith, rw e at (count-next l p))
 
--- a cipher takes a block to a block
-abbrev pub Sized : Cipher → Type 0
-Sized E = (b : List ℕ) → length b ≡ 16 → length (E b) ≡ 16
-
-pub length-xors : (xs ys : List ℕ) → length (xors xs ys) ≡ length xs
-unfolding xors
-length-xors [] ys = refl
-length-xors (x ∷ xs) [] = refl
-length-xors (x ∷ xs) (y ∷ ys) = ap suc (length-xors xs ys)
-
 module _ (E D : Cipher) (sE : Sized E) (sD : Sized D) where
   pub length-blockOut : (d : Direction) (c b : List ℕ) → length b ≡ 16 → length (blockOut E D d c b) ≡ 16
   unfolding blockOut
@@ -68,22 +59,6 @@ module _ (E D : Cipher) (d : Direction) (k : Mode) (iv : List ℕ) (M F : List B
   unfolding feed
   feed-append t [] ys = refl
   feed-append t (x ∷ xs) ys = simp (feed-append (step E D d k iv M F t x .state) xs ys, append-assoc)
-
-  -- the pieces of a list fed one after the other
-  unfoldable pub feedAll : State → List (List ℕ) → Stepped
-  feedAll t [] = record { state = t; released = [] }
-  feedAll t (p ∷ ps) =
-      record {
-        state = feedAll (feed E D d k iv M F t p .state) ps .state;
-        released = feed E D d k iv M F t p .released ++ feedAll (feed E D d k iv M F t p .state) ps .released;
-      }
-
-  pub pieces-released : (t : State) (ps : List (List ℕ)) → feedAll t ps .released ≡ feed E D d k iv M F t (flatten ps) .released
-  unfolding feedAll feed flatten
-  pieces-released t [] = refl
-  pieces-released t (p ∷ ps) =
-      ap (λ (l : List ℕ). feed E D d k iv M F t p .released ++ l) (pieces-released (feed E D d k iv M F t p .state) ps)
-      ∙ sym (feed-append t p (flatten ps))
 
   -- what a step does to the position
   pub step-position : (t : State) (b : ℕ) → step E D d k iv M F t b .state .position ≡ suc (t .position)

@@ -13,8 +13,9 @@ use Rattle.scheme.specs.declared.Pattern.{Pattern}
 use Rattle.scheme.specs.declared.Scheme.{Scheme}
 use Rattle.scheme.specs.declared.Scheme.the-variants.{Cenc, Cbc1, Cens, Cbcs}
 use Rattle.scheme.specs.Layout.{period, Entry, inWholeBlock, inCryptRun, tabulate, isCiphered, rangeMarks, marks, mask, count}
-use Rattle.scheme.specs.Held.{Place, Clear, Inside, place, inPlace, inBlock}
-use Rattle.scheme.proofs.Pieces.{cond-law}
+use Rattle.scheme.specs.Machine.{modeOf}
+use Rattle.scheme.specs.Held.{Place, Clear, Inside, place, inPlace, inBlock, heldAt}
+use Rattle.scheme.proofs.Pieces.{cond-law, heldAfter}
 use Rattle.scheme.proofs.Agreement.{byBlock, length-range, tabulate-block, tabulate-last}
 
 -- ---- the marks
@@ -185,3 +186,12 @@ module _ (pattern : Pattern) where
   rank-block Cbc1 h es x = rank-at (λ (n k : ℕ). ltb k (n / 16)) past es x
   rank-block Cens h es x = rank-at (λ (n k : ℕ). ltb k (n / 16) && ltb (k % (period pattern)) (pattern .crypt)) (λ n. rw past) es x
   rank-block Cbcs h es x = rank-at (λ (n k : ℕ). ltb k (n / 16) && ltb (k % (period pattern)) (pattern .crypt)) (λ n. rw past) es x
+
+  -- as many bytes are held after the ciphered ones before position x as that position calls for
+  pub heldAt-is : (es : List Entry) (s : Scheme) (x : ℕ)
+      → heldAfter (modeOf s) (count (take x (mask s pattern es))) ≡ heldAt pattern es s x
+  unfolding heldAfter modeOf heldAt
+  heldAt-is es Cenc x = refl
+  heldAt-is es Cbc1 x = rank-block Cbc1 (λ (e : Cbc1 ≡ Cenc). let z : _≡_ {A = ℕ} 0 1 = cc in omega arith) es x
+  heldAt-is es Cens x = refl
+  heldAt-is es Cbcs x = rank-block Cbcs (λ (e : Cbcs ≡ Cenc). let z : _≡_ {A = ℕ} 0 1 = cc in omega arith) es x

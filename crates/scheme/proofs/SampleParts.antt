@@ -20,8 +20,7 @@ use Rattle.modes_spec.specs.Modes.{Cipher}
 use Rattle.scheme.proofs.Agreement.{length-range}
 use Rattle.scheme.proofs.Pieces.{cond-law, heldAfter}
 use Rattle.scheme.specs.Held.{Place, place, inPlace, inBlock, heldAt}
-use Rattle.scheme.proofs.Positions.{place-law}
-use Rattle.scheme.proofs.Demand.{heldAt-is}
+use Rattle.scheme.proofs.Positions.{place-law, heldAt-is}
 use Rattle.scheme.specs.declared.Mode.the-variants.{Chain}
 use Rattle.scheme.specs.Machine.{modeOf, feedSample}
 use Rattle.scheme.proofs.Passes.{passes-none, passes-join, count-part}

@@ -7,24 +7,21 @@ use native.Mathlib.Omega.{arith}
 use lib.Dec.{eqb}
 use lib.ListN.{length, getD, take}
 use borrow.Author.Tests.{eqb-true}
-use Rattle.octets.specs.Bytes.{Bytes}
 use Rattle.modes_spec.specs.declared.Direction.{Direction}
-use Rattle.modes_spec.specs.Modes.{Cipher}
+use Rattle.modes_spec.specs.Modes.{Cipher, Sized}
 use Rattle.track_spec.specs.declared.Parameters.{Parameters}
 use Rattle.subsample_spec.specs.declared.SubsampleMap.{SubsampleMap}
 use Rattle.scheme.specs.declared.Pattern.{Pattern}
 use Rattle.scheme.specs.declared.Scheme.{Scheme}
 use Rattle.scheme.specs.declared.Scheme.the-variants.{Cenc, Cbc1, Cens, Cbcs}
-use Rattle.scheme.specs.Layout.{patternOf, schemeOf, isCiphered, restarts, Entry, entry, total, mask, restartMask}
+use Rattle.scheme.specs.Layout.{patternOf, schemeOf, restarts, Entry, entry, total, mask, restartMask}
 use Rattle.scheme.specs.declared.Mode.{Mode}
 use Rattle.scheme.specs.declared.Mode.the-variants.{Counter, Chain}
 use Rattle.scheme.specs.Machine.{State, modeOf, free, chainAt, plain, counted, chained, cipheredStep, step, feed, feedSample}
 use Rattle.scheme.specs.Held.{Place, Clear, Inside, place, inPlace}
 use Rattle.scheme.specs.Part as part
-use Rattle.scheme.proofs.Pieces.{Sized}
 use Rattle.scheme.proofs.Agreement.{machine-whole, released}
-use Rattle.scheme.proofs.Demand.{heldAt-is}
-use Rattle.scheme.proofs.Positions.{marks-at}
+use Rattle.scheme.proofs.Positions.{marks-at, heldAt-is}
 use Rattle.scheme.proofs.Unprotected.{held-clear, mask-clear, feed-unmarked, whole-clear}
 
 -- where no chain starts anew the constant IV is never taken
@@ -52,13 +49,6 @@ module _ (es : List Entry) (x : ℕ) where
   never : (s : Scheme) → ((n o : ℕ) → restarts s n o ≡ false) → getD (restartMask s es) x false ≡ false
   unfolding restartMask
   never s h = marks-at (restarts s) es x ∙ never-marked (restarts s) h (place es x)
-
--- What the start says of parameters and IV: a range of a protected track begins with a ciphered block, and in cbcs the IV is
--- the constant one.
-pub record Begins (p : Parameters) (iv : List ℕ) : Type 0 where
-  pub bytes : Bytes 16 iv
-  pub first : p .protected ≡ 1 → isCiphered (schemeOf (p .code)) (patternOf p) 16 0 ≡ true
-  pub constant : p .protected ≡ 1 → schemeOf (p .code) ≡ Cbcs → p .«constant_iv» .0 ≡ iv
 
 -- in any scheme the machine goes as with the IV in place of the constant one
 module _ (E D : Cipher) (d : Direction) (pattern : Pattern) (v iv : List ℕ) (es : List Entry) (t : State) (xs : List ℕ) where
@@ -96,7 +86,7 @@ module _ (E D : Cipher) (d : Direction) (p : Parameters) (m : SubsampleMap) (n :
   clear-ciphered iv xs l = rw e (whole-clear E D iv (patternOf p) (length xs) d (schemeOf (p .code)) xs)
 
 module _ (E D : Cipher) (sE : Sized E) (sD : Sized D) (d : Direction) (p : Parameters) (m : SubsampleMap) (iv : List ℕ)
-    (b : Begins p iv)
+    (b : part.Begins p iv)
     (xs : List ℕ) (l : length xs ≡ total (part.entriesOf p m (length xs))) where
   module _ (one : p .protected ≡ 1) where
     abbrev s : Scheme

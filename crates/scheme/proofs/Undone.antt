@@ -14,7 +14,8 @@ use Rattle.modes_spec.specs.declared.Direction.{Direction}
 use Rattle.modes_spec.specs.Modes.{Cipher, ctr, cbc}
 use Rattle.modes_spec.proofs.Streamed.{shorter}
 use Rattle.octets.proofs.OfBytes.{bytes-take, bytes-drop, bytes-append}
-use Rattle.modes_spec.proofs.Undone.{back, Inverse, Undoes, same-undone, ctr-undone, cbc-undone}
+use Rattle.modes_spec.specs.Undone.{back, Inverse, Undoes}
+use Rattle.modes_spec.proofs.Undone.{same-undone, ctr-undone, cbc-undone}
 use Rattle.scheme.specs.declared.Pattern.{Pattern}
 use Rattle.scheme.specs.declared.Scheme.{Scheme}
 use Rattle.scheme.specs.declared.Scheme.the-variants.{Cenc, Cbc1, Cens, Cbcs}

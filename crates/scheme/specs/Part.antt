@@ -1,15 +1,18 @@
 -- A sample under parameters and a map: its entries, the bytes held at a position, and a part of it ciphered where it lies
 -- (document 01, "A sample's auxiliary data", "Which bytes are ciphered, and how" and "Pieces").
-use mathlib.Core.Bool.{Bool, cond, _&&_}
+use mathlib.Core.Bool.{Bool, true, cond, _&&_}
 use mathlib.Core.List.{List, [], _∷_}
+use mathlib.Core.Path.{_≡_}
 use Prim.Native.Nat.{ℕ, _+_}
 use lib.Dec.{eqb, leb}
 use lib.ListN.{length}
+use Rattle.octets.specs.Bytes.{Bytes}
 use Rattle.modes_spec.specs.declared.Direction.{Direction}
 use Rattle.modes_spec.specs.Modes.{Cipher}
 use Rattle.track_spec.specs.declared.Parameters.{Parameters}
 use Rattle.subsample_spec.specs.declared.SubsampleMap.{SubsampleMap}
 use Rattle.subsample_spec.specs.Auxiliary.{longest}
+use Rattle.scheme.specs.declared.Scheme.the-variants.{Cbcs}
 use Rattle.scheme.specs.Layout.{patternOf, schemeOf, isCiphered, Entry, entry, entries, total}
 use Rattle.scheme.specs.WholeSample.{whole}
 use Rattle.scheme.specs.Machine.{State, Stepped, free, feedSample}
@@ -26,6 +29,13 @@ entriesOf p m n = cond (eqb (p .protected) 1) (protectedEntries m n) (entry n 0 
 -- The sample locked or opened whole.
 unfoldable pub ciphered : Cipher → Cipher → Direction → Parameters → SubsampleMap → List ℕ → List ℕ → List ℕ
 ciphered E D d p m iv xs = whole E D iv (patternOf p) (entriesOf p m (length xs)) d (schemeOf (p .code)) xs
+
+-- What the start says of parameters and IV: a range of a protected track begins with a ciphered block, and in cbcs the IV is
+-- the constant one.
+pub record Begins (p : Parameters) (iv : List ℕ) : Type 0 where
+  pub bytes : Bytes 16 iv
+  pub first : p .protected ≡ 1 → isCiphered (schemeOf (p .code)) (patternOf p) 16 0 ≡ true
+  pub constant : p .protected ≡ 1 → schemeOf (p .code) ≡ Cbcs → p .«constant_iv» .0 ≡ iv
 
 module _ (p : Parameters) (m : SubsampleMap) (n : ℕ) where
   -- The bytes held at position x.

@@ -24,7 +24,7 @@ use Rattle.stream_spec.specs.declared.Stream.{Stream}
 use Rattle.stream_spec.specs.Stream.{heldBy, declaredBy, start, machine, feedRows, feed, outputAfter, end}
 use Rattle.stream_spec.specs.Demand3.{Call, Feeding, Ending, lent, Reply, countAt, ending, replyAt, pieceAt, account, accepted, make, run, recordAfter, replies, released, Unchanged, heldFrom, pieces, Demand3}
 use Rattle.stream_spec.proofs.Accepted.{rules}
-use Rattle.stream_spec.proofs.Reached.{Rules, few, fed, at, at-sum, Moves, moves}
+use Rattle.stream_spec.proofs.Reached.{Rules, few, fed, at, at-held, at-sum, Moves, moves}
 
 -- ---- A list of calls, from the record that the pieces a lead to.
 
@@ -175,6 +175,10 @@ module _ (d : Direction) (i : Inputs) (n : ℕ) (ok : OfBytes i) (h : start d i 
     end-only : end (recordAfter (start d i n .stream) calls) .answer ≡ 0 → x ≡ n
     end-only z = end-at (eqb x n) refl (sym ended ∙ z)
 
+    counted : recordAfter (start d i n .stream) calls .progress .«held_count» ≡ heldFrom i n x
+    unfolding at
+    counted = rw (begun, ran .last) (at-held q iv a)
+
     holds : Demand3 d i n calls
     unfolding countAt
     holds =
@@ -182,6 +186,7 @@ module _ (d : Direction) (i : Inputs) (n : ℕ) (ok : OfBytes i) (h : start d i 
           replies = rw begun (ran .replies);
           bytes = λ xs rest e l. joined ∙ begins-with xs l a rest e;
           count = ap length joined ∙ omega (arith, at-sum q iv a);
+          held-count = counted;
           held-within = omega (arith, at-sum q iv a);
           held-few = few q x;
           end-done = λ e. ended ∙ end-zero e;

@@ -1,6 +1,6 @@
 -- What start, feeding and end answer depends on: not on key or IV bytes, nor on the counter or chain, the held bytes or the piece's.
 use mathlib.Core.Bool.{Bool, true, false, cond, not, _&&_}
-use mathlib.Core.List.{List, [], _∷_}
+use mathlib.Core.List.{List, _∷_}
 use mathlib.Core.Path.{_≡_, refl, sym, ap, ap₂, _∙_}
 use Prim.Native.Nat.{ℕ, _+_, _≤_}
 use native.Mathlib.Omega.{arith}
@@ -12,17 +12,20 @@ use Rattle.modes_spec.specs.declared.Direction.{Direction}
 use Rattle.track_spec.specs.declared.Parameters.{Parameters}
 use Rattle.track_spec.specs.Track.{hasConstant, parameterRows, writeRows}
 use Rattle.track_spec.proofs.Checking.{write-refused, write-done}
-use Rattle.track_spec.proofs.Depends.{AlikeParameters, write-alike}
+use Rattle.track_spec.specs.Depends.{AlikeParameters}
+use Rattle.track_spec.proofs.Depends.{write-alike}
 use Rattle.track_spec.proofs.Depends as track
 use Rattle.subsample_spec.specs.declared.SubsampleMap.{SubsampleMap}
 use Rattle.scheme.specs.Layout.{patternOf}
 use Rattle.scheme.specs.Part.{entriesOf, heldUnder}
 use Rattle.sample_spec.specs.Sample.{Inputs, parametersOf, ivOf, sampleRows}
-use Rattle.sample_spec.proofs.Depends.{AlikeInputs, boxes-alike, maps-alike, inputs-alike}
+use Rattle.sample_spec.specs.Depends.{AlikeInputs}
+use Rattle.sample_spec.proofs.Depends.{boxes-alike, maps-alike, inputs-alike}
 use Rattle.stream_spec.specs.declared.Declared.{Declared}
 use Rattle.stream_spec.specs.declared.Stream.{Stream}
 use Rattle.stream_spec.specs.Stream.{heldBy, soundDeclared, sound, begun, idle, declaredBy, start, due, feedRows, afterPiece, feed, endRows, end}
-use Rattle.stream_spec.specs.Demand3.{Call, Feeding, Ending, Reply, reply, make, run, replies}
+use Rattle.stream_spec.specs.Demand3.{Call, Reply, reply, make, run, replies}
+use Rattle.stream_spec.specs.Depends.{AlikeDeclared, AlikeStreams, AlikeRecords, AlikeCalls, none, feeding, ending}
 use Rattle.stream_spec.proofs.Rules.{next-position, next-held, next-places, done-sound}
 
 -- ---- Parameters.
@@ -53,12 +56,6 @@ module _ {p q : Parameters} (s : AlikeParameters p q) where
 
 -- ---- Records.
 
--- What was declared, but for direction, KID, a constant IV that is called for, and key.
-pub record AlikeDeclared (q r : Declared) : Type 0 where
-  pub parameters : AlikeParameters (q .parameters) (r .parameters)
-  pub length : q .length ≡ r .length
-  pub map : q .map ≡ r .map
-
 module _ {q r : Declared} (s : AlikeDeclared q r) where
   rules-alike : soundDeclared q ≡ soundDeclared r
   unfolding soundDeclared
@@ -67,12 +64,6 @@ module _ {q r : Declared} (s : AlikeDeclared q r) where
 
   held-by : (x : ℕ) → heldBy q x ≡ heldBy r x
   held-by x = rw (s .map, s .length) (held-alike (s .parameters) (r .map) (r .length) x)
-
--- And records, but for counter or chain, and held bytes.
-pub record AlikeStreams (t u : Stream) : Type 0 where
-  pub declared : AlikeDeclared (t .declared) (u .declared)
-  pub position : t .progress .position ≡ u .progress .position
-  pub held-count : t .progress .«held_count» ≡ u .progress .«held_count»
 
 module _ {t u : Stream} (s : AlikeStreams t u) where
   sound-alike : sound t ≡ sound u
@@ -110,12 +101,6 @@ module _ {t u : Stream} (s : AlikeStreams t u) where
 
 -- ---- A list of calls.
 
--- Records with all held places; a record of the code always has them.
-pub record AlikeRecords (t u : Stream) : Type 0 where
-  pub streams : AlikeStreams t u
-  pub left : length (t .progress .held) ≡ 16
-  pub right : length (u .progress .held) ≡ 16
-
 module _ {t u : Stream} (s : AlikeRecords t u) (piece piece′ : List ℕ) (l : length piece ≡ length piece′) where
   next-alike : sound t ≡ true → AlikeRecords (afterPiece t piece) (afterPiece u piece′)
   next-alike ok =
@@ -144,13 +129,6 @@ module _ {t u : Stream} (s : AlikeRecords t u) (piece piece′ : List ℕ) (l : 
         go true true f = next-alike (done-sound t (length piece) room (eqb-true (answer (feedRows t (length piece) room)) 0 f))
         go true false f = s
         go false c f = s
-
--- Two lists of calls, feeding for feeding and end for end, with pieces and outputs of the same lengths.
-pub data AlikeCalls : List Call → List Call → Type 0 where
-  none : AlikeCalls [] []
-  feeding : {cs cs′ : List Call} (piece piece′ out out′ : List ℕ) → length piece ≡ length piece′ → length out ≡ length out′
-      → AlikeCalls cs cs′ → AlikeCalls (Feeding piece out ∷ cs) (Feeding piece′ out′ ∷ cs′)
-  ending : {cs cs′ : List Call} → AlikeCalls cs cs′ → AlikeCalls (Ending ∷ cs) (Ending ∷ cs′)
 
 -- they get the same replies
 pub run-alike : {cs cs′ : List Call} → AlikeCalls cs cs′ → {t u : Stream} → AlikeRecords t u

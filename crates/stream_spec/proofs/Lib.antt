@@ -7,3 +7,4 @@ pub mod Releasing
 pub mod Demand3
 pub mod Depends
 pub mod Samples
+pub mod Numbers

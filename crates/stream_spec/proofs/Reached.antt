@@ -23,7 +23,7 @@ use Rattle.scheme.specs.Machine.{State, Stepped, free, modeOf, feedSample}
 use Rattle.scheme.specs.Held.{heldAt}
 use Rattle.scheme.specs.Part.{entriesOf, heldUnder, feedUnder}
 use Rattle.scheme.proofs.Pieces.{heldAfter, Added, feed-append, feed-append-state, feed-position, feed-adds}
-use Rattle.scheme.proofs.Demand.{heldAt-is}
+use Rattle.scheme.proofs.Positions.{heldAt-is}
 use Rattle.scheme.proofs.Holding.{held-small, held-low}
 use Rattle.stream_spec.specs.declared.Declared.{Declared}
 use Rattle.stream_spec.specs.declared.Stream.{Stream}
@@ -142,7 +142,7 @@ module _ (q : Declared) (iv : List ℕ) where
     at-position : fed a .state .position ≡ length a
     at-position = machine-position q (free 0 iv) a ∙ zero-add (length a)
 
-    at-held : length (fed a .state .held) ≡ H q (length a)
+    pub at-held : length (fed a .state .held) ≡ H q (length a)
     at-held = machine-held q (free 0 iv) a start-fits ∙ ap (H q) (zero-add (length a))
 
     fits-at : Fits q (fed a .state)

@@ -134,8 +134,9 @@ pub record Demand3 (d : Direction) (i : Inputs) (n : ℕ) (calls : List Call) : 
   -- what the whole-sample call with the start's inputs makes of it;
   pub bytes : (xs rest : List ℕ) → xs ≡ pieces i n calls ++ rest → length xs ≡ n
       → released (run (start d i n .stream) calls) ≡ take (countAt (heldFrom i n) (reached i n calls)) (sampleAfter d i xs)
-  -- they are that many, and at most 15 are held;
+  -- they are that many; the record's held count is held x, at most 15;
   pub count : length (released (run (start d i n .stream) calls)) ≡ countAt (heldFrom i n) (reached i n calls)
+  pub held-count : recordAfter (start d i n .stream) calls .progress .«held_count» ≡ heldFrom i n (reached i n calls)
   pub held-within : heldFrom i n (reached i n calls) ≤ reached i n calls
   pub held-few : heldFrom i n (reached i n calls) ≤ 15
   -- an end after the list is answered 0 exactly when x is the declared length, and then all of the sample has been released;

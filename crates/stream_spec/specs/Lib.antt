@@ -1,2 +1,5 @@
 pub mod Stream
 pub mod Demand3
+pub mod Depends
+pub mod Samples
+pub mod Numbers

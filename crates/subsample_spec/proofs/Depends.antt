@@ -15,16 +15,10 @@ use Rattle.octets.proofs.Tests.{or-false-left, or-false-right}
 use Rattle.track_spec.specs.declared.Parameters.{Parameters}
 use Rattle.track_spec.specs.Track.{fieldsFrom, fields, readRows}
 use Rattle.track_spec.proofs.Checking.{read-refusals}
-use Rattle.track_spec.proofs.Depends.{Alike, read-alike}
+use Rattle.track_spec.specs.Depends.{AlikeBoxes}
+use Rattle.track_spec.proofs.Depends.{read-alike}
 use Rattle.subsample_spec.specs.Auxiliary.{sum, entryLength, written, countWritten, badSize, entryCount, mapRead, mapRows, auxiliaryRows}
-
--- Parameters that differ at most in version, pattern, KID and constant IV, and data that differ at most in the IV's bytes.
-pub record AlikeData (p q : Parameters) (a b : List ℕ) : Type 0 where
-  pub code : p .code ≡ q .code
-  pub protected : p .protected ≡ q .protected
-  pub iv-size : p .«iv_size» ≡ q .«iv_size»
-  pub size : length a ≡ length b
-  pub after : (i : ℕ) → p .«iv_size» ≤ i → getD a i 0 ≡ getD b i 0
+use Rattle.subsample_spec.specs.Depends.{AlikeData}
 
 module _ {p q : Parameters} {a b : List ℕ} (s : AlikeData p q a b) where
   after-alike : (n at : ℕ) → p .«iv_size» ≤ at → number n a at ≡ number n b at
@@ -60,7 +54,7 @@ module _ {p q : Parameters} {a b : List ℕ} (s : AlikeData p q a b) where
   unfolding auxiliaryRows answer
   auxiliary-alike n = rw (size-alike, map-alike, s .code)
 
-module _ (code : List ℕ) {x y : List ℕ} (s : Alike x y) (n : ℕ) (a b : List ℕ) (l : length a ≡ length b)
+module _ (code : List ℕ) {x y : List ℕ} (s : AlikeBoxes x y) (n : ℕ) (a b : List ℕ) (l : length a ≡ length b)
     (h : (i : ℕ) → getD x 15 0 ≤ i → getD a i 0 ≡ getD b i 0) where
   pub fields-alike : AlikeData (fields code x) (fields code y) a b
   unfolding fields fieldsFrom

@@ -1,1 +1,2 @@
 pub mod Auxiliary
+pub mod Depends

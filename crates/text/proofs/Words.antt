@@ -12,15 +12,6 @@ use lib.Seq.{drop-cons, drop-drop}
 use borrow.Author.Tests.{eq-eqb, ne-eqb, leb-true, leb-false}
 use Rattle.text.specs.Text.{upTo, behind, fromWord, wordAt}
 
-pub up-to-length : (b : ℕ) (s : List ℕ) → length (upTo b s) ≤ length s
-unfolding upTo
-up-to-length b [] = omega arith
-up-to-length b (x ∷ xs) = go (eqb x b) (up-to-length b xs)
-  where
-    go : (t : Bool) → length (upTo b xs) ≤ length xs → length (cond t [] (x ∷ upTo b xs)) ≤ suc (length xs)
-    go true l = omega arith
-    go false l = omega arith
-
 pub up-to-take : (b : ℕ) (s : List ℕ) → take (length (upTo b s)) s ≡ upTo b s
 unfolding upTo
 up-to-take b [] = refl

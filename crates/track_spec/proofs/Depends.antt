@@ -2,9 +2,9 @@
 use mathlib.Core.Bool.{Bool, true, false, cond, _||_}
 use mathlib.Core.List.{List}
 use mathlib.Core.Path.{_≡_, refl, sym, ap, _∙_}
-use Prim.Native.Nat.{ℕ, _/_, _%_, _<_}
+use Prim.Native.Nat.{ℕ, _/_, _%_}
 use native.Mathlib.Omega.{arith}
-use lib.ListN.{length, getD, drop}
+use lib.ListN.{getD, drop}
 use Rattle.octets.specs.Answers.{answer}
 use Rattle.octets.specs.Bytes.{same, filled}
 use Rattle.octets.proofs.Alike.{number-alike}
@@ -12,6 +12,7 @@ use Rattle.octets.proofs.Bytes.{same-true}
 use Rattle.boxes.proofs.Frame.{frame-alike}
 use Rattle.track_spec.specs.declared.Parameters.{Parameters}
 use Rattle.track_spec.specs.Track.{tenc, zeros, hasConstant, allowedFields, allowed, fieldsFrom, fields, badHead, badFields, readRows, writeRows}
+use Rattle.track_spec.specs.Depends.{AlikeBoxes, AlikeParameters}
 
 -- Where none is called for the reader sets the constant IV to zero.
 constant-zero : (t : Bool) (x : List ℕ) → (t || same (cond t x zeros) zeros) ≡ true
@@ -23,13 +24,7 @@ allowed-read : (code box : List ℕ)
 unfolding allowed fields fieldsFrom
 allowed-read code box = rw (constant-zero (hasConstant (getD box 14 0) (getD box 15 0)) (filled 16 (drop 33 box)))
 
--- Two boxes of one length that differ at most in the KID and the constant IV.
-pub record Alike (a b : List ℕ) : Type 0 where
-  pub size : length a ≡ length b
-  pub front : (i : ℕ) → i < 16 → getD a i 0 ≡ getD b i 0
-  pub constant-size : getD a 32 0 ≡ getD b 32 0
-
-module _ {a b : List ℕ} (s : Alike a b) where
+module _ {a b : List ℕ} (s : AlikeBoxes a b) where
   module _ (code : List ℕ) where
     head-alike : badHead a (fields code a) ≡ badHead b (fields code b)
     unfolding badHead fields fieldsFrom
@@ -64,18 +59,8 @@ module _ {a b : List ℕ} (s : Alike a b) where
     read-alike =
         rw (frame-alike 32 tenc a b (s .size) (λ i l. s .front i (omega arith)), head-alike, fields-alike)
 
--- Parameters that differ at most in the KID and in a constant IV that is called for.
-pub record AlikeParameters (p q : Parameters) : Type 0 where
-  pub code : p .code ≡ q .code
-  pub version : p .version ≡ q .version
-  pub crypt : p .crypt ≡ q .crypt
-  pub skip : p .skip ≡ q .skip
-  pub protected : p .protected ≡ q .protected
-  pub iv-size : p .«iv_size» ≡ q .«iv_size»
-  pub constant : hasConstant (p .protected) (p .«iv_size») ≡ false → p .«constant_iv» .0 ≡ q .«constant_iv» .0
-
 -- the parameters read of two such boxes
-pub parameters-alike : {a b : List ℕ} → Alike a b → (code : List ℕ) → AlikeParameters (fields code a) (fields code b)
+pub parameters-alike : {a b : List ℕ} → AlikeBoxes a b → (code : List ℕ) → AlikeParameters (fields code a) (fields code b)
 unfolding fields fieldsFrom
 parameters-alike {a} {b} s code =
     record {

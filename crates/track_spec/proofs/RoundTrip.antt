@@ -17,7 +17,7 @@ use Rattle.octets.proofs.Tests.{&&-left, or-false-left, or-false-right}
 use Rattle.boxes.specs.Box as frame
 use Rattle.boxes.proofs.Frame.{frame-long, framed, header-length, size-written, type-written, version-written, flags-written, header-read}
 use Rattle.track_spec.specs.declared.Parameters.{Parameters}
-use Rattle.track_spec.specs.Track.{tenc, zeros, known, hasConstant, allowed, badVersion, boxLength, fieldsFrom, fields, badHead, badFields, readRows, readBox, fieldBytes, boxBytes, writeRows}
+use Rattle.track_spec.specs.Track.{tenc, zeros, known, hasConstant, allowed, Held, badVersion, boxLength, fieldsFrom, fields, badHead, badFields, readRows, readBox, fieldBytes, boxBytes, writeRows}
 use Rattle.track_spec.proofs.Codes.{allowed-small}
 
 -- ---- The fields by themselves, as they follow a header.
@@ -150,11 +150,6 @@ read-accepted code box h =
     rw (a .known-code, a .version, a .permitted, room)
 
 -- ---- Reading what was written.
-
--- The parameters as the code's types hold them.
-pub record Held (p : Parameters) : Type 0 where
-  pub kid : length (p .kid .0) ≡ 16
-  pub constant : length (p .«constant_iv» .0) ≡ 16
 
 module _ (p : Parameters) (held : Held p) (ok : allowed p ≡ true) where
   abbrev has : Bool

@@ -12,8 +12,8 @@ use Rattle.octets.proofs.Fill.{placed-next}
 use Rattle.boxes.specs.Box as frame
 use Rattle.boxes.proofs.Frame.{header-length}
 use Rattle.track_spec.specs.declared.Parameters.{Parameters}
-use Rattle.track_spec.specs.Track.{tenc, hasConstant, allowed, boxLength, frontBytes, fieldBytes, boxBytes}
-use Rattle.track_spec.proofs.RoundTrip.{Held, length-fields, header-and-fields, box-length}
+use Rattle.track_spec.specs.Track.{tenc, hasConstant, allowed, boxLength, frontBytes, fieldBytes, boxBytes, Held}
+use Rattle.track_spec.proofs.RoundTrip.{length-fields, header-and-fields, box-length}
 
 module _ (p : Parameters) (held : Held p) (ok : allowed p ≡ true) (out : List ℕ) (at : ℕ)
     (room : at + length (fieldBytes p) ≤ length out) where

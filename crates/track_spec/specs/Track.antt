@@ -1,6 +1,7 @@
 -- Document 01, "The track box": the four scheme codes, the parameters that are allowed, the box read and written.
 use mathlib.Core.Bool.{Bool, cond, not, _&&_, _||_}
 use mathlib.Core.List.{List, [], _∷_, _++_}
+use mathlib.Core.Path.{_≡_}
 use Prim.Native.Nat.{ℕ, _+_, _*_, _/_, _%_}
 use lib.Dec.{eqb, leb, ltb}
 use lib.ListN.{length, getD, drop, replicate}
@@ -70,6 +71,11 @@ unfoldable pub allowed : Parameters → Bool
 allowed p =
     (hasConstant (p .protected) (p .«iv_size») || same (p .«constant_iv» .0) zeros)
     && allowedFields (p .code) (p .protected) (p .«iv_size») (p .crypt) (p .skip)
+
+-- Parameters as the types of the code hold them: KID and constant IV have 16 bytes.
+pub record Held (p : Parameters) : Type 0 where
+  pub kid : length (p .kid .0) ≡ 16
+  pub constant : length (p .«constant_iv» .0) ≡ 16
 
 -- A version above 1, or a pattern in version 0.
 abbrev pub badVersion : ℕ → ℕ → ℕ → Bool

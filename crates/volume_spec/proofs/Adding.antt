@@ -9,11 +9,10 @@ use lib.ListN.{length, take, drop, length-append, length-drop, take-append-drop}
 use lib.Seq.{length-take-le, take-append-le, drop-append-le, take-at, drop-at}
 use Rattle.volume_spec.specs.declared.Entry.{Entry}
 use Rattle.volume_spec.specs.declared.Trailer.{Trailer}
-use Rattle.volume_spec.specs.Volume.{entryAt, entryBytes, trailer, trailerBytes, entries, index, adjoining, newEntry, newTrailer, added}
+use Rattle.volume_spec.specs.Volume.{entryAt, entryBytes, trailer, trailerBytes, entries, index, adjoining, newEntry, newTrailer, added, Valid}
 use Rattle.volume_spec.specs.Additions.{storedBy, stored}
 use Rattle.volume_spec.proofs.Fields.{length-fields, entry-fields, trailer-fields}
 use Rattle.volume_spec.proofs.Entries.{entries-last, entries-before, entries-behind, adjoining-rest, adjoining-within, adjoining-last, largest-last}
-use Rattle.volume_spec.proofs.Valid.{Valid}
 
 -- ---- The bytes of records that lie in front of other bytes.
 
@@ -72,7 +71,7 @@ module _ (v contents : List ℕ) (term today : ℕ) where
     length-earlier : length earlier ≡ trailer v .count * 24
     length-earlier = length-take-le (trailer v .count * 24) (drop (trailer v .offset) v) (simp length-drop (omega (arith, h .filled)))
 
-    pub length-added : length new ≡ length v + length contents + 24
+    pub length-added : length (added v contents term today) ≡ length v + length contents + 24
     unfolding entryBytes trailerBytes
     length-added =
         ap length split-trailer ∙ simp (length-append, length-fields) (omega (arith, length-front, length-earlier, h .filled))
@@ -112,13 +111,13 @@ module _ (v contents : List ℕ) (term today : ℕ) where
           (record { first = omega (arith, h .filled); second = omega arith; third = today-fits; fourth = term-fits })
           (records ++ earlier) (trailerBytes last) _ l
 
-      pub index-added : index new ≡ index v ++ (entry ∷ [])
+      pub index-added : index (added v contents term today) ≡ index v ++ (newEntry v contents term today ∷ [])
       index-added =
           rw (trailer-new, add-one)
           (entries-last new (trailer v .offset + length contents) (trailer v .count) ∙ rw (entries-stay, entry-new))
 
       module _ (day : trailer v .latest ≤ today) where
-        pub valid-added : Valid new
+        pub valid-added : Valid (added v contents term today)
         valid-added =
             record {
               whole = omega (arith, length-added);
@@ -141,7 +140,7 @@ module _ (v contents : List ℕ) (term today : ℕ) where
       unfolding storedBy added
       new-stored = rw (drop-at (take (trailer v .offset) v) _ (trailer v .offset) length-front, take-at contents _ (length contents) refl)
 
-      pub stored-added : stored new ≡ stored v ++ (record { contents = contents; day = today; term = term } ∷ [])
+      pub stored-added : stored (added v contents term today) ≡ stored v ++ (record { contents = contents; day = today; term = term } ∷ [])
       unfolding stored
       stored-added =
           ap (map (storedBy new)) index-added ∙ map-append (storedBy new) (index v) (entry ∷ [])

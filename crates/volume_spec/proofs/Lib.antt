@@ -11,3 +11,4 @@ pub mod WrittenOnce
 pub mod NeverEarly
 pub mod Depends
 pub mod Examples
+pub mod Numbers

@@ -20,7 +20,7 @@ module _ (adds : List Addition) where
       → f (storedBy volume (entryOf volume k)) ≡ getD (map (λ a. f (kept a)) (accepted none adds)) k 0
   stored-as f k l = sym (stored-at volume k f 0 l) ∙ rw (written-once adds .holds, map-map f kept (accepted none adds))
 
-  pub never-early : (k today : ℕ) → disposable volume k today ≡ 0 → ExpiredOf adds k today
+  pub never-early : (k today : ℕ) → disposable (volumeAfter none adds) k today ≡ 0 → ExpiredOf adds k today
   unfolding storedBy
   never-early k today z =
       let x = backward-clock volume k today z in

@@ -9,9 +9,8 @@ use Rattle.octets.specs.Bytes.{digits, placed}
 use Rattle.octets.proofs.Bytes.{length-digits}
 use Rattle.octets.proofs.Fill.{placed-next}
 use Rattle.volume_spec.specs.declared.Trailer.{Trailer}
-use Rattle.volume_spec.specs.Volume.{fields, entryBytes, trailer, trailerBytes, added}
+use Rattle.volume_spec.specs.Volume.{fields, entryBytes, trailer, trailerBytes, added, Valid}
 use Rattle.volume_spec.proofs.Fields.{length-fields}
-use Rattle.volume_spec.proofs.Valid.{Valid}
 
 -- an entry or a trailer, field by field
 module _ (a b c d : ℕ) (out : List ℕ) (at : ℕ) (room : at + 24 ≤ length out) where

@@ -1,4 +1,4 @@
--- What a valid volume has, field by field, and the same by the trailer as the code reads it.
+-- The test of validity and its record say the same; and the same by the trailer as the code reads it.
 use mathlib.Core.Bool.{Bool, true, false, _&&_, true≢false}
 use mathlib.Core.List.{List}
 use mathlib.Core.Path.{_≡_, refl, sym, _∙_}
@@ -9,14 +9,7 @@ use borrow.Author.Tests.{leb-true, le-leb, eqb-true, eqb-false, eq-eqb}
 use Rattle.octets.proofs.Tests.{&&-left, &&-right}
 use Rattle.volume_spec.specs.declared.Entry.{Entry}
 use Rattle.volume_spec.specs.declared.Trailer.{Trailer}
-use Rattle.volume_spec.specs.Volume.{trailer, entries, index, fills, adjoining, largestDay, valid}
-
-pub record Valid (v : List ℕ) : Type 0 where
-  pub whole : 24 ≤ length v
-  pub filled : trailer v .offset + trailer v .count * 24 + 24 ≡ length v
-  pub adjoined : adjoining 0 (index v) (trailer v .offset) ≡ true
-  pub last : trailer v .last ≡ 0
-  pub latest : trailer v .latest ≡ largestDay (index v)
+use Rattle.volume_spec.specs.Volume.{trailer, entries, index, fills, adjoining, largestDay, valid, Valid}
 
 module _ (v : List ℕ) where
   pub valid-has : valid v ≡ true → Valid v

@@ -10,10 +10,10 @@ use lib.Seq.{take-append-seam}
 use borrow.Author.Tests.{eqb-true, eqb-false, ne-eqb}
 use Rattle.octets.specs.Answers.{Row, answer}
 use Rattle.octets.proofs.Bytes.{placed-fits}
-use Rattle.volume_spec.specs.Volume.{trailer, trailerBytes, entries, index, adjoining, largestDay, valid, found, none, addRows, added, add, afterAdding}
-use Rattle.volume_spec.specs.Additions.{handedOut, Stored, stored, Addition, answerTo, leaves, volumeAfter, accepted, kept, WrittenOnce}
+use Rattle.volume_spec.specs.Volume.{trailer, trailerBytes, entries, index, adjoining, largestDay, valid, found, none, addRows, added, add, afterAdding, Valid}
+use Rattle.volume_spec.specs.Additions.{handedOut, Stored, stored, Addition, answerTo, leaves, volumeAfter, accepted, kept, WrittenOnce, Grown}
 use Rattle.volume_spec.proofs.Fields.{length-fields, trailer-fields}
-use Rattle.volume_spec.proofs.Valid.{Valid, is-valid}
+use Rattle.volume_spec.proofs.Valid.{is-valid}
 use Rattle.volume_spec.proofs.Records.{check-valid, record-there, record-missing, length-stored, handed-stored}
 use Rattle.volume_spec.proofs.Adding.{length-added, valid-added, stored-added}
 use Rattle.volume_spec.proofs.Writing.{Accepted, accepted-says}
@@ -69,11 +69,6 @@ module _ (v : List ℕ) (h : Valid v) (a : Addition) where
       go (done z w s) = w
 
 -- ---- Any list of them, to any valid volume.
-
--- The volume stays valid, and holds what it held and then what was accepted.
-pub record Grown (v : List ℕ) (adds : List Addition) : Type 0 where
-  pub is-valid : Valid (volumeAfter v adds)
-  pub holds : stored (volumeAfter v adds) ≡ stored v ++ map kept (accepted v adds)
 
 grown-step : (v : List ℕ) → (a : Addition) (adds : List Addition) → Outcome v a → Grown (leaves v a) adds → Grown v (a ∷ adds)
 unfolding volumeAfter accepted

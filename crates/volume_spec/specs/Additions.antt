@@ -8,7 +8,7 @@ use lib.Dec.{eqb}
 use lib.ListN.{length, getD, take, drop}
 use Rattle.volume_spec.specs.declared.Entry.{Entry}
 use Rattle.volume_spec.specs.declared.Written.{Written}
-use Rattle.volume_spec.specs.Volume.{index, none, check, found, add, afterAdding}
+use Rattle.volume_spec.specs.Volume.{index, Valid, none, check, found, add, afterAdding}
 
 -- ---- What a volume holds.
 
@@ -63,8 +63,14 @@ accepted v (a ∷ adds) = cond (eqb (answerTo v a .answer) 0) (a ∷ accepted (l
 abbrev pub kept : Addition → Stored
 kept a = record { contents = a .contents; day = a .today; term = a .term }
 
--- ---- The claim for a list of additions to the empty volume.
+-- ---- The claims for a list of additions.
 
+-- To any valid volume: it stays valid, and holds what it held and then what was accepted.
+pub record Grown (v : List ℕ) (adds : List Addition) : Type 0 where
+  pub is-valid : Valid (volumeAfter v adds)
+  pub holds : stored (volumeAfter v adds) ≡ stored v ++ map kept (accepted v adds)
+
+-- To the empty volume.
 pub record WrittenOnce (adds : List Addition) : Type 0 where
   -- The volume is valid throughout: after each of them.
   pub valid : (n : ℕ) → check (volumeAfter none (take n adds)) ≡ 0

@@ -1,3 +1,4 @@
 pub mod Volume
 pub mod Additions
 pub mod Disposal
+pub mod Numbers

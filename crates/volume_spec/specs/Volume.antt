@@ -1,7 +1,8 @@
 -- Document 02, Ask 13, the vault volume: its layout, when it is valid, and what each call on one answers (50 to 54).
-use mathlib.Core.Bool.{Bool, cond, not, _&&_}
+use mathlib.Core.Bool.{Bool, true, cond, not, _&&_}
 use mathlib.Core.List.{List, [], _∷_, _++_}
-use Prim.Native.Nat.{ℕ, zero, suc, _+_, _-_, _*_, max}
+use mathlib.Core.Path.{_≡_}
+use Prim.Native.Nat.{ℕ, zero, suc, _+_, _-_, _*_, _≤_, max}
 use lib.Dec.{eqb, leb, ltb}
 use lib.ListN.{length, take, drop}
 use Rattle.octets.specs.Answers.{Row, row, answer}
@@ -69,6 +70,14 @@ valid v =
     && adjoining 0 (index v) (trailer v .offset)
     && eqb (trailer v .last) 0
     && eqb (trailer v .latest) (largestDay (index v))
+
+-- The same as one record, field by field.
+pub record Valid (v : List ℕ) : Type 0 where
+  pub whole : 24 ≤ length v
+  pub filled : trailer v .offset + trailer v .count * 24 + 24 ≡ length v
+  pub adjoined : adjoining 0 (index v) (trailer v .offset) ≡ true
+  pub last : trailer v .last ≡ 0
+  pub latest : trailer v .latest ≡ largestDay (index v)
 
 -- ---- Checking: 50, not valid.
 

@@ -4,7 +4,8 @@ use Prim.Native.Nat.{_+_, _-_, _≤_}
 use lib.ListN.{getD}
 use Rattle.fips197.specs.State.{State}
 use Rattle.fips197.specs.Cipher.{round, rounds, cipher}
-use Rattle.fips197.proofs.SBox.{sbox, sbox-rule}
+use Rattle.fips197.specs.Table.{sbox}
+use Rattle.fips197.proofs.SBox.{sbox-rule}
 use Rattle.fips197.proofs.Rounds.{rounds-next}
 use borrow.Author.Needs.{needs}
 use native.Mathlib.Omega.{arith}

@@ -1,7 +1,8 @@
 use mathlib.Core.Path.{_≡_, refl, sym, ap, _∙_}
 use Prim.Native.Nat.{_-_, _≤_}
 use Rattle.fips197.specs.InvCipher.{invRounds, invCipher}
-use Rattle.fips197.proofs.SBox.{inv-sbox, inv-sbox-rule}
+use Rattle.fips197.specs.Table.{inv-sbox}
+use Rattle.fips197.proofs.SBox.{inv-sbox-rule}
 use Rattle.fips197.proofs.Rounds.{inv-rounds-next, inv-rounds-end}
 use borrow.Author.Needs.{needs}
 use native.Mathlib.Omega.{arith}

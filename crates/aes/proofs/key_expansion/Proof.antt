@@ -2,7 +2,8 @@ use mathlib.Core.Path.{_≡_, refl, sym, ap, ap₂, _∙_}
 use Prim.Native.Nat.{_+_, _-_, _≤_}
 use Rattle.fips197.specs.Field.{xtime}
 use Rattle.fips197.specs.KeyExpansion.{rcon, roundKey, nextKey}
-use Rattle.fips197.proofs.SBox.{sbox, sbox-rule}
+use Rattle.fips197.specs.Table.{sbox}
+use Rattle.fips197.proofs.SBox.{sbox-rule}
 use Rattle.fips197.proofs.KeyExpansion.{roundKey-zero, roundKey-next, rcon-next, AreKeys, keys-start, keys-next, keys-all}
 use borrow.Author.Needs.{needs}
 use native.Mathlib.Omega.{arith}

@@ -1,5 +1,6 @@
 -- the places: the header stored, made, and the start
-use Rattle.track_spec.proofs.RoundTrip.{Held, header-and-fields, size-between}
+use Rattle.track_spec.specs.Track.{Held}
+use Rattle.track_spec.proofs.RoundTrip.{header-and-fields, size-between}
 use Rattle.track_spec.proofs.Storing.{stored-box}
 use borrow.Author.Needs.{needs}
 use native.Mathlib.Omega.{arith}

@@ -2,7 +2,7 @@
 use mathlib.Core.Bool.{true}
 use mathlib.Core.Path.{sym, _∙_}
 use Rattle.track_spec.proofs.Codes.{allowed-small}
-use Rattle.track_spec.proofs.RoundTrip.{Held}
+use Rattle.track_spec.specs.Track.{Held}
 use Rattle.track_spec.proofs.Storing.{room-for, stored-plain, stored-constant}
 use borrow.Author.Needs.{needs}
 use native.Mathlib.Omega.{arith}

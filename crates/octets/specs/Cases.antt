@@ -1,0 +1,19 @@
+-- Cases as a document gives them: what the definitions make of some input, and what the document says of it, as lists of numbers.
+use mathlib.Core.List.{List, [], _∷_}
+use Prim.Native.Nat.{ℕ}
+
+pub record Case : Type 0 where
+  pub made : List ℕ
+  pub said : List ℕ
+
+abbrev pub is : List ℕ → List ℕ → Case
+is made said = record { made = made; said = said }
+
+-- What is made in each case of a list, and what is said.
+unfoldable pub allMade : List Case → List (List ℕ)
+allMade [] = []
+allMade (c ∷ cs) = c .made ∷ allMade cs
+
+unfoldable pub allSaid : List Case → List (List ℕ)
+allSaid [] = []
+allSaid (c ∷ cs) = c .said ∷ allSaid cs

@@ -1,0 +1,299 @@
+-- Document 01, "Numbers answered, in the order tried": for each call small inputs with the number that the document says, one for each
+-- number that the call uses and for each two neighbours of the order that apply at once. Told with it are the lengths answered and the
+-- bytes released.
+use mathlib.Core.List.{List, [], _∷_, _++_, map}
+use Prim.Native.Nat.{ℕ}
+use lib.ListN.{length, take, drop, replicate}
+use Rattle.octets.specs.Answers.{answer}
+use Rattle.octets.specs.Ascii.{ascii}
+use Rattle.octets.specs.Bytes.{digits, filled}
+use Rattle.octets.specs.Cases.{Case, is}
+use Rattle.modes_spec.specs.declared.Direction.the-variants.{Lock, Open}
+use Rattle.track_spec.specs.declared.Parameters.{Parameters}
+use Rattle.track_spec.specs.Track.{cenc, cbc1, cens, cbcs, tenc, zeros, unprotected, readBox, parameterRows, writeBox}
+use Rattle.subsample_spec.specs.declared.SubsampleMap.{SubsampleMap}
+use Rattle.subsample_spec.specs.Auxiliary.{limit, emptyMap, mapRows, readUnder, readAuxiliary}
+use Rattle.scheme.specs.Layout.{Entry, entry}
+use Rattle.sample_spec.specs.Sample.{Inputs, inputs, findKey, parametersOf, answered, readInputs}
+use Rattle.stream_spec.specs.declared.Stream.{Stream}
+use Rattle.stream_spec.specs.Stream.{progressOf, start, feed, end}
+use Rattle.stream_spec.specs.Samples.{span, boxOf, keysOf}
+
+-- An input, and the number said of it.
+pub record Asked (A : Type 0) : Type 0 where
+  pub input : A
+  pub number : ℕ
+
+abbrev pub gives : {A : Type 0} → A → ℕ → Asked A
+gives input number = record { input = input; number = number }
+
+-- What a call answers to all inputs of a list, and what is said.
+abbrev pub asked : {A : Type 0} → (A → ℕ) → List (Asked A) → Case
+asked call qs = is (map (λ q. call (q .input)) qs) (map (λ q. q .number) qs)
+
+-- ---- What is handed in.
+
+-- A box with a size field and a type: the eight bytes from the version to the IV size, KID 1 to 16, and what follows.
+abbrev pub boxWith : ℕ → List ℕ → List ℕ → List ℕ → List ℕ
+boxWith size kind fields after = 0 ∷ 0 ∷ 0 ∷ size ∷ kind ++ (fields ++ (span 1 16 ++ after))
+
+-- cbcs 1:9 with a constant IV; an unprotected track.
+abbrev pub constantBox : List ℕ
+constantBox = boxWith 49 tenc (1 ∷ 0 ∷ 0 ∷ 0 ∷ 0 ∷ 25 ∷ 1 ∷ 0 ∷ []) (16 ∷ replicate 16 170)
+
+abbrev pub clearBox : List ℕ
+clearBox = boxWith 32 tenc (0 ∷ 0 ∷ 0 ∷ 0 ∷ 0 ∷ 0 ∷ 0 ∷ 0 ∷ []) []
+
+-- Auxiliary data: a zero IV of some size, the count and the entries.
+unfoldable pub entriesBytes : List Entry → List ℕ
+entriesBytes [] = []
+entriesBytes (e ∷ es) = digits 2 (e .clear) ++ (digits 4 (e .protected) ++ entriesBytes es)
+
+abbrev pub auxiliaryOf : ℕ → List Entry → List ℕ
+auxiliaryOf ivSize es = replicate ivSize 0 ++ (digits 2 (length es) ++ entriesBytes es)
+
+-- What a caller hands in for a sample of some length.
+pub record Given : Type 0 where
+  pub inputs : Inputs
+  pub length : ℕ
+
+abbrev pub given : List ℕ → List ℕ → List ℕ → List ℕ → ℕ → Given
+given code box auxiliary keys n = record { inputs = inputs code box auxiliary keys; length = n }
+
+-- ---- 1 to 4, of a box.
+
+-- A sample of 5 bytes with no entries written, whose box and code are asked about.
+abbrev pub ofBox : List ℕ → List ℕ → List ℕ → Given
+ofBox code box auxiliary = given code box auxiliary keysOf 5
+
+abbrev pub eight : List ℕ
+eight = replicate 8 0
+
+unfoldable pub boxes : List (Asked Given)
+boxes =
+    gives (ofBox cenc (boxOf 8) eight) 0 ∷ gives (ofBox cbcs constantBox []) 0 ∷ gives (ofBox cenc clearBox []) 0
+    -- "the scheme code isn't four bytes naming one of the four"
+    ∷ gives (ofBox (take 3 cenc) (boxOf 8) eight) 1 ∷ gives (ofBox (cenc ++ (0 ∷ [])) (boxOf 8) eight) 1
+    ∷ gives (ofBox (ascii "senc") (boxOf 8) eight) 1
+    -- "the box has under 32 bytes, or its size isn't the slice's length, or its type isn't `tenc`"
+    ∷ gives (ofBox cenc (0 ∷ 0 ∷ 0 ∷ 31 ∷ drop 4 (take 31 (boxOf 8))) eight) 2
+    ∷ gives (ofBox cenc (boxWith 33 tenc (0 ∷ 0 ∷ 0 ∷ 0 ∷ 0 ∷ 0 ∷ 1 ∷ 8 ∷ []) []) eight) 2
+    ∷ gives (ofBox cenc (boxWith 32 cenc (0 ∷ 0 ∷ 0 ∷ 0 ∷ 0 ∷ 0 ∷ 1 ∷ 8 ∷ []) []) eight) 2
+    -- "version above 1, flags or zero byte not zero, or a pattern in version 0"
+    ∷ gives (ofBox cenc (boxWith 32 tenc (2 ∷ 0 ∷ 0 ∷ 0 ∷ 0 ∷ 0 ∷ 1 ∷ 8 ∷ []) []) eight) 3
+    ∷ gives (ofBox cenc (boxWith 32 tenc (0 ∷ 0 ∷ 0 ∷ 1 ∷ 0 ∷ 0 ∷ 1 ∷ 8 ∷ []) []) eight) 3
+    ∷ gives (ofBox cenc (boxWith 32 tenc (0 ∷ 0 ∷ 0 ∷ 0 ∷ 1 ∷ 0 ∷ 1 ∷ 8 ∷ []) []) eight) 3
+    ∷ gives (ofBox cens (boxWith 32 tenc (0 ∷ 0 ∷ 0 ∷ 0 ∷ 0 ∷ 25 ∷ 1 ∷ 8 ∷ []) []) eight) 3
+    -- "the fields aren't allowed as above, or the box is longer or shorter than they call for"
+    ∷ gives (ofBox cenc (boxWith 32 tenc (0 ∷ 0 ∷ 0 ∷ 0 ∷ 0 ∷ 0 ∷ 1 ∷ 7 ∷ []) []) eight) 4
+    ∷ gives (ofBox cenc (boxWith 33 tenc (0 ∷ 0 ∷ 0 ∷ 0 ∷ 0 ∷ 0 ∷ 1 ∷ 8 ∷ []) (0 ∷ [])) eight) 4
+    ∷ gives (ofBox cbcs (boxWith 32 tenc (1 ∷ 0 ∷ 0 ∷ 0 ∷ 0 ∷ 25 ∷ 1 ∷ 0 ∷ []) []) []) 4
+    ∷ gives (ofBox cbcs (boxWith 49 tenc (1 ∷ 0 ∷ 0 ∷ 0 ∷ 0 ∷ 25 ∷ 1 ∷ 0 ∷ []) (15 ∷ replicate 16 170)) []) 4
+    -- 1 before 2, 2 before 3, 3 before 4
+    ∷ gives (ofBox (ascii "senc") (take 31 (boxOf 8)) eight) 1
+    ∷ gives (ofBox cenc (boxWith 32 cenc (2 ∷ 0 ∷ 0 ∷ 0 ∷ 0 ∷ 0 ∷ 1 ∷ 8 ∷ []) []) eight) 2
+    ∷ gives (ofBox cenc (boxWith 32 tenc (2 ∷ 0 ∷ 0 ∷ 0 ∷ 0 ∷ 0 ∷ 1 ∷ 7 ∷ []) []) eight) 3
+    ∷ []
+
+-- ---- 1, 3 and 4, of parameters.
+
+abbrev pub parametersWith : List ℕ → ℕ → ℕ → ℕ → ℕ → ℕ → List ℕ → Parameters
+parametersWith code version crypt skip protected ivSize constant =
+    record {
+      code = code;
+      version = version;
+      crypt = crypt;
+      skip = skip;
+      protected = protected;
+      «iv_size» = ivSize;
+      kid = record { 0 = span 1 16 };
+      «constant_iv» = record { 0 = constant };
+    }
+
+-- cenc with IVs of 8 bytes, cbc1, and cbcs 1:9.
+abbrev pub cenc8 : Parameters
+cenc8 = parametersWith cenc 0 0 0 1 8 zeros
+
+abbrev pub cbc1Track : Parameters
+cbc1Track = parametersWith cbc1 0 0 0 1 16 zeros
+
+abbrev pub cbcsTrack : Parameters
+cbcsTrack = parametersWith cbcs 1 1 9 1 0 (replicate 16 170)
+
+unfoldable pub parameters : List (Asked Parameters)
+parameters =
+    gives cenc8 0 ∷ gives cbc1Track 0 ∷ gives cbcsTrack 0 ∷ gives unprotected 0
+    ∷ gives (parametersWith (ascii "senc") 0 0 0 1 8 zeros) 1
+    ∷ gives (parametersWith cenc 2 0 0 1 8 zeros) 3 ∷ gives (parametersWith cens 0 1 9 1 8 zeros) 3
+    -- "the writer refuses others as 4": a constant IV where none is called for
+    ∷ gives (parametersWith cenc 0 0 0 1 7 zeros) 4 ∷ gives (parametersWith cenc 0 0 0 1 8 (replicate 16 170)) 4
+    -- 1 before 3, 3 before 4
+    ∷ gives (parametersWith (ascii "senc") 2 0 0 1 8 zeros) 1 ∷ gives (parametersWith cenc 2 0 0 1 7 zeros) 3 ∷ []
+
+-- ---- 5 and 6, of the key record: "5 and 6 are skipped for an unprotected track".
+
+abbrev pub ofKeys : List ℕ → List ℕ → List ℕ → Given
+ofKeys box auxiliary keys = given cenc box auxiliary keys 5
+
+unfoldable pub keyRecords : List (Asked Given)
+keyRecords =
+    gives (ofKeys (boxOf 8) eight keysOf) 0 ∷ gives (ofKeys clearBox [] []) 0 ∷ gives (ofKeys clearBox [] (replicate 32 0)) 0
+    -- "key record not 32 bytes (KID, then key)"
+    ∷ gives (ofKeys (boxOf 8) eight (take 31 keysOf)) 5 ∷ gives (ofKeys (boxOf 8) eight (keysOf ++ (0 ∷ []))) 5
+    -- "its KID isn't the track's"
+    ∷ gives (ofKeys (boxOf 8) eight (span 2 16 ++ span 101 16)) 6
+    -- 5 before 6
+    ∷ gives (ofKeys (boxOf 8) eight (span 2 16)) 5 ∷ []
+
+-- ---- 7 to 12, of auxiliary data.
+
+abbrev pub ofData : List ℕ → ℕ → List ℕ → ℕ → Given
+ofData code ivSize auxiliary n = given code (boxOf ivSize) auxiliary keysOf n
+
+unfoldable pub auxiliaries : List (Asked Given)
+auxiliaries =
+    gives (ofData cenc 8 eight 16777216) 0 ∷ gives (ofData cenc 8 (auxiliaryOf 8 (entry 2 3 ∷ [])) 5) 0
+    ∷ gives (ofData cenc 8 (auxiliaryOf 8 (entry 0 0 ∷ [])) 0) 0 ∷ gives (ofData cenc 8 (auxiliaryOf 8 (entry 0 31 ∷ [])) 31) 0
+    ∷ gives (ofData cbc1 16 (auxiliaryOf 16 (entry 0 32 ∷ [])) 32) 0 ∷ gives (given cenc clearBox [] [] 5) 0
+    -- "sample over 16,777,216 bytes"
+    ∷ gives (ofData cenc 8 eight 16777217) 7 ∷ gives (given cenc clearBox [] [] 16777217) 7
+    -- "auxiliary data of the wrong size, or count 0"
+    ∷ gives (ofData cenc 8 (replicate 7 0) 5) 8 ∷ gives (ofData cenc 8 (replicate 9 0) 5) 8
+    ∷ gives (ofData cenc 8 (auxiliaryOf 8 []) 5) 8 ∷ gives (ofData cenc 8 (auxiliaryOf 8 (entry 2 3 ∷ []) ++ (0 ∷ [])) 5) 8
+    ∷ gives (given cenc clearBox (0 ∷ []) [] 5) 8
+    -- "more than 64 entries"
+    ∷ gives (ofData cenc 8 (auxiliaryOf 8 (replicate 65 (entry 0 1))) 65) 9
+    -- "an entry 0 and 0 in a sample that isn't empty"
+    ∷ gives (ofData cenc 8 (auxiliaryOf 8 (entry 1 0 ∷ entry 0 0 ∷ [])) 1) 10
+    -- "lengths don't add up to the sample's"
+    ∷ gives (ofData cenc 8 (auxiliaryOf 8 (entry 2 3 ∷ [])) 6) 11
+    -- "cbc1 entry whose protected length isn't a multiple of 16"
+    ∷ gives (ofData cbc1 16 (auxiliaryOf 16 (entry 0 31 ∷ [])) 31) 12
+    -- 7 before 8, 8 before 9, 9 before 10, 10 before 11, 11 before 12
+    ∷ gives (ofData cenc 8 (replicate 7 0) 16777217) 7
+    ∷ gives (ofData cenc 8 (auxiliaryOf 8 (replicate 65 (entry 0 1)) ++ (0 ∷ [])) 65) 8
+    ∷ gives (ofData cenc 8 (auxiliaryOf 8 (replicate 65 (entry 0 0))) 1) 9
+    ∷ gives (ofData cenc 8 (auxiliaryOf 8 (entry 0 0 ∷ [])) 1) 10
+    ∷ gives (ofData cbc1 16 (auxiliaryOf 16 (entry 0 31 ∷ [])) 32) 11 ∷ []
+
+-- Of two of these together: 4 before 7 for a reader of auxiliary data; 4 before 5 and 6 before 7 for a sample.
+abbrev pub badFields : List ℕ
+badFields = boxWith 32 tenc (0 ∷ 0 ∷ 0 ∷ 0 ∷ 0 ∷ 0 ∷ 1 ∷ 7 ∷ []) []
+
+unfoldable pub boxThenData : List (Asked Given)
+boxThenData = gives (given cenc badFields eight keysOf 16777217) 4 ∷ []
+
+unfoldable pub boxThenKeys : List (Asked Given)
+boxThenKeys = gives (given cenc badFields eight (take 31 keysOf) 5) 4 ∷ gives (given cenc (boxOf 8) eight (span 2 32) 16777217) 6 ∷ []
+
+-- ---- 9 to 12, of a map.
+
+pub record Checked : Type 0 where
+  pub code : List ℕ
+  pub map : SubsampleMap
+  pub length : ℕ
+
+abbrev pub mapWith : List ℕ → List ℕ → ℕ → SubsampleMap
+mapWith clear protected count = record { clear = filled limit clear; protected = filled limit protected; count = count }
+
+abbrev pub ofMap : List ℕ → SubsampleMap → ℕ → Checked
+ofMap code m n = record { code = code; map = m; length = n }
+
+unfoldable pub maps : List (Asked Checked)
+maps =
+    gives (ofMap cenc emptyMap 5) 0 ∷ gives (ofMap cenc (mapWith (2 ∷ []) (3 ∷ []) 1) 5) 0
+    ∷ gives (ofMap cenc (mapWith [] (replicate 64 1) 64) 64) 0
+    ∷ gives (ofMap cenc (mapWith [] [] 1) 0) 0 ∷ gives (ofMap cenc (mapWith [] (31 ∷ []) 1) 31) 0
+    ∷ gives (ofMap cenc (mapWith [] (replicate 64 1) 65) 64) 9
+    ∷ gives (ofMap cenc (mapWith (1 ∷ []) [] 2) 1) 10
+    ∷ gives (ofMap cenc (mapWith (2 ∷ []) (3 ∷ []) 1) 6) 11
+    ∷ gives (ofMap cbc1 (mapWith [] (31 ∷ []) 1) 31) 12
+    -- 9 before 10, 10 before 11, 11 before 12
+    ∷ gives (ofMap cenc (mapWith [] [] 65) 1) 9 ∷ gives (ofMap cenc (mapWith [] [] 1) 1) 10
+    ∷ gives (ofMap cbc1 (mapWith [] (31 ∷ []) 1) 32) 11 ∷ []
+
+-- ---- The record of a stream: "Record rules".
+
+-- At position x of a declared sample, with k bytes held.
+abbrev pub streamAt : Parameters → ℕ → SubsampleMap → ℕ → ℕ → Stream
+streamAt p n m x k =
+    record {
+      declared = record { direction = Lock; parameters = p; length = n; map = m; key = record { 0 = zeros } };
+      progress = progressOf (record { position = x; block = zeros; held = replicate k 0 });
+    }
+
+unfoldable pub unsound : List Stream
+unsound =
+    -- "the parameters meet 1, 3 and 4"
+    streamAt (parametersWith (ascii "senc") 0 0 0 1 8 zeros) 20 emptyMap 10 0
+    ∷ streamAt (parametersWith cenc 2 0 0 1 8 zeros) 20 emptyMap 10 0
+    ∷ streamAt (parametersWith cenc 0 0 0 1 7 zeros) 20 emptyMap 10 0
+    -- "map and declared length meet 7 and 9 to 12, with no entries if unprotected"
+    ∷ streamAt cenc8 16777217 emptyMap 10 0
+    ∷ streamAt cenc8 64 (mapWith [] (replicate 64 1) 65) 10 0
+    ∷ streamAt cenc8 20 (mapWith (20 ∷ []) [] 2) 10 0
+    ∷ streamAt cenc8 20 (mapWith [] (19 ∷ []) 1) 10 0
+    ∷ streamAt cbc1Track 31 (mapWith [] (31 ∷ []) 1) 20 0
+    ∷ streamAt unprotected 20 (mapWith (20 ∷ []) [] 1) 10 0
+    -- "the position is at most the length, and the held count is what the position calls for"
+    ∷ streamAt cenc8 20 emptyMap 21 0
+    ∷ streamAt cenc8 20 emptyMap 10 1
+    ∷ streamAt cbc1Track 40 emptyMap 10 0
+    ∷ streamAt cbc1Track 40 emptyMap 10 11 ∷ []
+
+-- Feeding k bytes with some room: the answer and the bytes released.
+abbrev pub fed : Stream → ℕ → ℕ → List ℕ
+fed t k room = feed t (replicate k 0) room .answer ∷ feed t (replicate k 0) room .released ∷ []
+
+-- Writing into some room: the answer and the box's length.
+abbrev pub written : Parameters → ℕ → List ℕ
+written p room = writeBox p room .answer ∷ writeBox p room .length ∷ []
+
+-- ---- The calls.
+
+-- What is asked of the reader of auxiliary data, and of whole samples and starts.
+abbrev pub ofReader : List (Asked Given)
+ofReader = boxes ++ (auxiliaries ++ boxThenData)
+
+abbrev pub ofSample : List (Asked Given)
+ofSample = boxes ++ (keyRecords ++ (auxiliaries ++ (boxThenData ++ boxThenKeys)))
+
+unfoldable pub numbers : List Case
+numbers =
+    -- "The box reader uses 1 to 4."
+    asked (λ q. readBox (q .inputs .code) (q .inputs .box) .answer) boxes
+    -- "the box writer 1, 3, 4, 17": 4 before 17
+    ∷ asked (λ p. writeBox p 49 .answer) parameters
+    ∷ is (written cenc8 32) (0 ∷ 32 ∷ []) ∷ is (written cbcsTrack 49) (0 ∷ 49 ∷ [])
+    ∷ is (written cenc8 31) (17 ∷ 0 ∷ []) ∷ is (written cbcsTrack 48) (17 ∷ 0 ∷ [])
+    ∷ is (written (parametersWith cenc 0 0 0 1 7 zeros) 0) (4 ∷ 0 ∷ [])
+    -- the check of parameters: 1, 3 and 4
+    ∷ asked (λ p. answer (parameterRows p)) parameters
+    -- "A public reader of auxiliary data takes code, box and sample length and uses 1 to 4 and 7 to 12."
+    ∷ asked (λ q. readAuxiliary (q .inputs .code) (q .inputs .box) (q .inputs .auxiliary) (q .length) .answer) ofReader
+    -- under given parameters 7 to 12, and the check of a map 9 to 12
+    ∷ asked (λ q. readUnder (parametersOf (q .inputs)) (q .inputs .auxiliary) (q .length) .answer) auxiliaries
+    ∷ asked (λ c. answer (mapRows (c .code) (c .map) (c .length))) maps
+    -- finding a key: 5 and 6
+    ∷ asked (λ q. findKey (parametersOf (q .inputs)) (q .inputs .keys) .answer) keyRecords
+    -- "Whole-sample calls and the start of a stream use 1 to 12"
+    ∷ asked (λ q. answered (q .inputs) (q .length)) ofSample
+    ∷ asked (λ q. readInputs (q .inputs) (q .length) .answer) ofSample
+    ∷ asked (λ q. start Lock (q .inputs) (q .length) .answer) ofSample
+    ∷ asked (λ q. start Open (q .inputs) (q .length) .answer) ofSample
+    -- "feeding uses 13 to 15"; "zero bytes are released" on any refusal
+    ∷ is (map (λ t. feed t [] 0 .answer) unsound) (replicate 13 13)
+    ∷ is (map (λ t. feed t [] 0 .released) unsound) (replicate 13 0)
+    ∷ is (fed (streamAt cenc8 20 emptyMap 10 0) 10 10) (0 ∷ 10 ∷ [])
+    ∷ is (fed (streamAt cenc8 20 emptyMap 10 0) 0 0) (0 ∷ 0 ∷ [])
+    ∷ is (fed (streamAt cbc1Track 40 emptyMap 10 10) 5 0) (0 ∷ 0 ∷ [])
+    ∷ is (fed (streamAt cbc1Track 40 emptyMap 10 10) 6 16) (0 ∷ 16 ∷ [])
+    ∷ is (fed (streamAt cenc8 20 emptyMap 10 0) 11 20) (14 ∷ 0 ∷ [])
+    ∷ is (fed (streamAt cenc8 20 emptyMap 10 0) 10 9) (15 ∷ 0 ∷ [])
+    ∷ is (fed (streamAt cbc1Track 40 emptyMap 10 10) 6 15) (15 ∷ 0 ∷ [])
+    -- 13 before 14, 14 before 15
+    ∷ is (fed (streamAt cenc8 20 emptyMap 10 1) 11 20) (13 ∷ 0 ∷ [])
+    ∷ is (fed (streamAt cenc8 20 emptyMap 10 0) 11 0) (14 ∷ 0 ∷ [])
+    -- "the end 13 and 16": 13 before 16
+    ∷ is (map (λ t. end t .answer) unsound) (replicate 13 13)
+    ∷ is (end (streamAt cenc8 20 emptyMap 20 0) .answer ∷ end (streamAt cenc8 20 emptyMap 19 0) .answer ∷ []) (0 ∷ 16 ∷ []) ∷ []
