@@ -1,2 +1,3 @@
+pub mod Examples
 pub mod Modes
 pub mod Undone

@@ -1,13 +1,15 @@
 -- NIST SP 800-38A, sections 6.5 and 6.2: the counter mode, with the 64-bit counter of ISO/IEC 23001-7, 9.3, and cipher block
 -- chaining; both over any block function.
 use mathlib.Core.List.{List, [], _∷_, _++_}
-use mathlib.Core.Path.{_≡_}
+use mathlib.Core.Path.{_≡_, refl}
 use Prim.Native.Nat.{ℕ, zero, suc, _+_, _/_, _%_, _^_}
-use lib.ListN.{length, getD, take, drop}
+use lib.ListN.{length, getD, take, drop, replicate}
 use Rattle.octets.specs.Bytes.{number, digits}
+use Rattle.octets.specs.Cases.{Case, is, allMade, allSaid, span}
 use Rattle.octets.specs.Xor.{_⊕_}
 use Rattle.modes_spec.specs.declared.Direction.{Direction}
 use Rattle.modes_spec.specs.declared.Direction.the-variants.{Lock, Open}
+use Rattle.modes_spec.specs.Examples.{telling, adding, block}
 
 -- A block cipher under one key: a block in, a block out.
 abbrev pub Cipher : Type 0
@@ -69,3 +71,29 @@ module _ (E D : Cipher) (d : Direction) where
 
   unfoldable pub chainEnd : List ℕ → List ℕ → List ℕ
   chainEnd chain xs = chainBlocks (length xs / 16) chain xs
+
+-- ---- Worked examples.
+
+-- Two blocks, and a rest of 4 bytes.
+abbrev blocksAndRest : List ℕ → List ℕ → List ℕ
+blocksAndRest a b = a ++ (b ++ replicate 4 7)
+
+pub examples : List Case
+examples =
+    -- Bytes 8 to 15 are a 64-bit number; after its largest value comes zero, and bytes 0 to 7 don't change.
+    is (counterAt (span 1 8 ++ replicate 8 0xff) 1) (span 1 8 ++ replicate 8 0)
+    ∷ is (counterAt (span 1 8 ++ (replicate 7 0 ++ (0xff ∷ []))) 1) (span 1 8 ++ (replicate 6 0 ++ (1 ∷ 0 ∷ [])))
+    -- The key stream, from its byte 10 on.
+    ∷ is (ctr telling (block 0) 10 (replicate 10 0)) (span 10 10)
+    -- A block takes the cipher text of the one before it, at first the IV; a rest stays.
+    ∷ is (cbc (adding 32) (adding 64) Lock (block 128) (blocksAndRest (block 1) (block 2)))
+    (blocksAndRest (block (1 + 128 + 32)) (block (2 + 1 + 128)))
+    ∷ is (cbc (adding 32) (adding 64) Open (block 128) (blocksAndRest (block 1) (block 2)))
+    (blocksAndRest (block (1 + 64 + 128)) (block (2 + 64 + 1)))
+    -- The chain after them is the last cipher text.
+    ∷ is (chainEnd (adding 32) (adding 64) Lock (block 128) (blocksAndRest (block 1) (block 2))) (block (2 + 1 + 128))
+    ∷ is (chainEnd (adding 32) (adding 64) Open (block 128) (blocksAndRest (block 1) (block 2))) (block 2) ∷ []
+
+pub examples-hold : allMade examples ≡ allSaid examples
+unfolding examples allMade allSaid counterAt number digits ctr streamByte xors _⊕_ cbc cbcBlocks blockOut blockChain chainEnd chainBlocks
+examples-hold = refl

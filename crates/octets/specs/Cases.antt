@@ -1,6 +1,7 @@
 -- Cases as a document gives them: what the definitions make of some input, and what the document says of it, as lists of numbers.
 use mathlib.Core.List.{List, [], _∷_}
-use Prim.Native.Nat.{ℕ}
+use Prim.Native.Nat.{ℕ, _+_}
+use Rattle.octets.specs.Bytes.{listOf}
 
 pub record Case : Type 0 where
   pub made : List ℕ
@@ -17,3 +18,7 @@ allMade (c ∷ cs) = c .made ∷ allMade cs
 unfoldable pub allSaid : List Case → List (List ℕ)
 allSaid [] = []
 allSaid (c ∷ cs) = c .said ∷ allSaid cs
+
+-- The numbers a, a + 1, .., k of them.
+abbrev pub span : ℕ → ℕ → List ℕ
+span a k = listOf k (λ i. a + i)

@@ -1,12 +1,17 @@
 -- Document 01, "Pieces": the bytes at the end of the first x that lie in a CBC block that will be ciphered and isn't complete yet.
 use mathlib.Core.Bool.{cond}
-use mathlib.Core.List.{List, [], _∷_}
+use mathlib.Core.List.{List, [], _∷_, _++_}
+use mathlib.Core.Path.{_≡_, refl}
 use Prim.Native.Nat.{ℕ, _-_, _%_}
 use lib.Dec.{ltb}
+use lib.ListN.{replicate}
+use Rattle.octets.specs.Bytes.{listOf}
+use Rattle.octets.specs.Cases.{Case, is, allMade, allSaid, span}
 use Rattle.scheme.specs.declared.Pattern.{Pattern}
 use Rattle.scheme.specs.declared.Scheme.{Scheme}
 use Rattle.scheme.specs.declared.Scheme.the-variants.{Cenc, Cbc1, Cens, Cbcs}
-use Rattle.scheme.specs.Layout.{Entry, isCiphered}
+use Rattle.scheme.specs.Layout.{Entry, entry, inWholeBlock, inCryptRun, isCiphered}
+use Rattle.scheme.specs.Examples.{cryptSkip}
 
 -- A clear byte, or the byte at an offset of a protected range of some length.
 pub data Place : Type 0 where
@@ -36,3 +41,22 @@ module _ (pattern : Pattern) where
   heldAt es Cbc1 x = inBlock Cbc1 (place es x)
   heldAt es Cens x = 0
   heldAt es Cbcs x = inBlock Cbcs (place es x)
+
+-- ---- Worked examples: the bytes held at positions 0 to 42 of a sample of 42 bytes.
+
+abbrev heldThrough : Scheme → Pattern → List Entry → List ℕ
+heldThrough s pattern es = listOf 43 (heldAt pattern es s)
+
+pub heldExamples : List Case
+heldExamples =
+    -- cbcs 1:1: none of 2 clear bytes, a block from its second byte on, nothing of a skipped block, nor of a last part.
+    is (heldThrough Cbcs (cryptSkip 1 1) (entry 2 40 ∷ [])) (replicate 2 0 ++ (span 0 16 ++ replicate 25 0))
+    -- cbc1: a block before and one behind 10 clear bytes.
+    ∷ is (heldThrough Cbc1 (cryptSkip 0 0) (entry 0 16 ∷ entry 10 16 ∷ [])) (span 0 16 ++ (replicate 10 0 ++ (span 0 16 ++ (0 ∷ []))))
+    -- cenc and cens hold nothing.
+    ∷ is (heldThrough Cenc (cryptSkip 0 0) (entry 2 40 ∷ [])) (replicate 43 0)
+    ∷ is (heldThrough Cens (cryptSkip 1 1) (entry 2 40 ∷ [])) (replicate 43 0) ∷ []
+
+pub held-examples-hold : allMade heldExamples ≡ allSaid heldExamples
+unfolding heldExamples allMade allSaid heldAt inBlock inPlace place isCiphered inWholeBlock inCryptRun
+held-examples-hold = refl

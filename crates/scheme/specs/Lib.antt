@@ -1,4 +1,5 @@
 pub mod Layout
+pub mod Examples
 pub mod WholeSample
 pub mod Machine
 pub mod Held

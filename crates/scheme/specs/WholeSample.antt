@@ -1,14 +1,18 @@
 -- Demand 2: a whole sample, locked and opened, by scheme, pattern and entries (document 01, "Which bytes are ciphered, and how").
 use mathlib.Core.Bool.{Bool}
 use mathlib.Core.List.{List, [], _∷_, _++_}
+use mathlib.Core.Path.{_≡_, refl}
 use Prim.Native.Nat.{ℕ, _+_}
 use lib.ListN.{take, drop}
+use Rattle.octets.specs.Bytes.{number, digits}
+use Rattle.octets.specs.Xor.{_⊕_}
 use Rattle.modes_spec.specs.declared.Direction.{Direction}
-use Rattle.modes_spec.specs.Modes.{Cipher, ctr, cbc}
+use Rattle.modes_spec.specs.Modes.{Cipher, xors, counterAt, streamByte, ctr, blockOut, blockChain, cbcBlocks, cbc}
 use Rattle.scheme.specs.declared.Pattern.{Pattern}
 use Rattle.scheme.specs.declared.Scheme.{Scheme}
 use Rattle.scheme.specs.declared.Scheme.the-variants.{Cenc, Cbc1, Cens, Cbcs}
-use Rattle.scheme.specs.Layout.{Entry, isCiphered, mask, rangeMarks, chosen, replaced}
+use Rattle.scheme.specs.Layout.{Entry, inWholeBlock, inCryptRun, isCiphered, tabulate, rangeMarks, marks, mask, chosen, replaced}
+use Rattle.scheme.specs.Examples.{Example, examples, madeBy, results}
 
 -- f over the marked bytes, taken as one run; every other byte stays.
 unfoldable pub over : (List ℕ → List ℕ) → List Bool → List ℕ → List ℕ
@@ -29,3 +33,13 @@ module _ (E D : Cipher) (iv : List ℕ) (pattern : Pattern) (es : List Entry) wh
   whole d Cbc1 xs = over (cbc E D d iv) (mask Cbc1 pattern es) xs
   whole d Cens xs = over (ctr E iv 0) (mask Cens pattern es) xs
   whole d Cbcs xs = overEach (cbc E D d iv) Cbcs pattern es xs
+
+-- ---- The worked examples.
+
+abbrev pub wholly : Example → List ℕ
+wholly e = whole (e .E) (e .D) (e .iv) (e .pattern) (e .entries) (e .direction) (e .scheme) (e .sample)
+
+pub whole-examples-hold : madeBy wholly examples ≡ results
+unfolding examples madeBy whole over overEach mask marks rangeMarks tabulate isCiphered inWholeBlock inCryptRun chosen replaced
+    ctr streamByte counterAt number digits cbc cbcBlocks blockOut blockChain xors _⊕_
+whole-examples-hold = refl

@@ -7,7 +7,7 @@ use lib.ListN.{length, take, drop, replicate}
 use Rattle.octets.specs.Answers.{answer}
 use Rattle.octets.specs.Ascii.{ascii}
 use Rattle.octets.specs.Bytes.{digits, filled}
-use Rattle.octets.specs.Cases.{Case, is}
+use Rattle.octets.specs.Cases.{Case, is, span}
 use Rattle.modes_spec.specs.declared.Direction.the-variants.{Lock, Open}
 use Rattle.track_spec.specs.declared.Parameters.{Parameters}
 use Rattle.track_spec.specs.Track.{cenc, cbc1, cens, cbcs, tenc, zeros, unprotected, readBox, parameterRows, writeBox}
@@ -17,7 +17,7 @@ use Rattle.scheme.specs.Layout.{Entry, entry}
 use Rattle.sample_spec.specs.Sample.{Inputs, inputs, findKey, parametersOf, answered, readInputs}
 use Rattle.stream_spec.specs.declared.Stream.{Stream}
 use Rattle.stream_spec.specs.Stream.{progressOf, start, feed, end}
-use Rattle.stream_spec.specs.Samples.{span, boxOf, keysOf}
+use Rattle.stream_spec.specs.Samples.{boxOf, keysOf}
 
 -- An input, and the number said of it.
 pub record Asked (A : Type 0) : Type 0 where

@@ -1,28 +1,24 @@
 -- Document 01, "Samples on both sides of a line": those marked [P], as one list, and how its cases are put in numbers.
 use mathlib.Core.Bool.{Bool, true, false}
 use mathlib.Core.List.{List, [], _∷_, _++_}
-use Prim.Native.Nat.{ℕ, suc, _+_, _*_}
-use lib.ListN.{length, getD, replicate}
-use Rattle.octets.specs.Bytes.{listOf}
-use Rattle.octets.specs.Cases.{Case, is}
+use Prim.Native.Nat.{ℕ, suc}
+use lib.ListN.{length, replicate}
+use Rattle.octets.specs.Cases.{Case, is, span}
 use Rattle.modes_spec.specs.declared.Direction.the-variants.{Lock}
 use Rattle.modes_spec.specs.Modes.{counterAt}
+use Rattle.modes_spec.specs.Examples.{telling}
 use Rattle.track_spec.specs.Track.{cenc, cbc1, tenc, fields}
 use Rattle.subsample_spec.specs.Auxiliary.{emptyMap}
-use Rattle.scheme.specs.declared.Pattern.{Pattern}
 use Rattle.scheme.specs.declared.Scheme.the-variants.{Cenc, Cbc1, Cens, Cbcs}
 use Rattle.scheme.specs.Layout.{Entry, entry, mask}
 use Rattle.scheme.specs.WholeSample.{whole}
+use Rattle.scheme.specs.Examples.{cryptSkip}
 use Rattle.scheme.specs.Part.{protectedEntries, heldUnder}
 use Rattle.scheme.specs.Counters.{counterBlocks}
 use Rattle.sample_spec.specs.Sample.{inputs, answered}
 use Rattle.stream_spec.specs.Demand3.{Call, Feeding, Reply, account}
 
 -- ---- How cases are put in numbers.
-
--- The numbers a, a + 1, .., k of them.
-abbrev pub span : ℕ → ℕ → List ℕ
-span a k = listOf k (λ i. a + i)
 
 -- The places that are marked, and those that are not, from place i on.
 unfoldable pub marked : ℕ → List Bool → List ℕ
@@ -34,13 +30,6 @@ unfoldable pub unmarked : ℕ → List Bool → List ℕ
 unmarked i [] = []
 unmarked i (true ∷ ms) = unmarked (suc i) ms
 unmarked i (false ∷ ms) = i ∷ unmarked (suc i) ms
-
--- A block function that tells the number of a key stream byte: from a zero counter block on, byte k of the key stream is k.
-abbrev pub telling : List ℕ → List ℕ
-telling block = span (getD block 15 0 * 16) 16
-
-abbrev pub pattern : ℕ → ℕ → Pattern
-pattern crypt skip = record { crypt = crypt; skip = skip }
 
 -- Replies as numbers.
 unfoldable pub told : List Reply → List ℕ
@@ -71,20 +60,20 @@ none n = protectedEntries emptyMap n
 unfoldable pub samples : List Case
 samples =
     -- 1. cenc, no entries, 20 bytes: 20 ciphered, two counter blocks.
-    is (marked 0 (mask Cenc (pattern 0 0) (none 20))) (span 0 20)
-    ∷ is (length (counterBlocks Cenc (pattern 0 0) (none 20) (replicate 16 0)) ∷ []) (2 ∷ [])
+    is (marked 0 (mask Cenc (cryptSkip 0 0) (none 20))) (span 0 20)
+    ∷ is (length (counterBlocks Cenc (cryptSkip 0 0) (none 20) (replicate 16 0)) ∷ []) (2 ∷ [])
     -- 2. cbc1, no entries, 20 bytes: 16 ciphered, 4 clear.
-    ∷ is (marked 0 (mask Cbc1 (pattern 0 0) (none 20))) (span 0 16)
-    ∷ is (unmarked 0 (mask Cbc1 (pattern 0 0) (none 20))) (span 16 4)
+    ∷ is (marked 0 (mask Cbc1 (cryptSkip 0 0) (none 20))) (span 0 16)
+    ∷ is (unmarked 0 (mask Cbc1 (cryptSkip 0 0) (none 20))) (span 16 4)
     -- 3. cenc, entries (0,10) (4,10), 24 bytes: stream bytes 10 to 19 fall on sample bytes 14 to 23.
-    ∷ is (whole telling telling (replicate 16 0) (pattern 0 0) (entry 0 10 ∷ entry 4 10 ∷ []) Lock Cenc (replicate 24 0))
+    ∷ is (whole telling telling (replicate 16 0) (cryptSkip 0 0) (entry 0 10 ∷ entry 4 10 ∷ []) Lock Cenc (replicate 24 0))
     (span 0 10 ++ (replicate 4 0 ++ span 10 10))
     -- 4. cbcs 1:9, range of 340: blocks at 0, 160 and 320 ciphered, the last 4 bytes clear.
-    ∷ is (marked 0 (mask Cbcs (pattern 1 9) (entry 0 340 ∷ []))) (span 0 16 ++ (span 160 16 ++ span 320 16))
-    ∷ is (unmarked 0 (mask Cbcs (pattern 1 9) (entry 0 340 ∷ []))) (span 16 144 ++ (span 176 144 ++ span 336 4))
+    ∷ is (marked 0 (mask Cbcs (cryptSkip 1 9) (entry 0 340 ∷ []))) (span 0 16 ++ (span 160 16 ++ span 320 16))
+    ∷ is (unmarked 0 (mask Cbcs (cryptSkip 1 9) (entry 0 340 ∷ []))) (span 16 144 ++ (span 176 144 ++ span 336 4))
     -- 5. cens 2:1, range of 64: blocks 0, 1 and 3; range of 63: blocks 0 and 1.
-    ∷ is (marked 0 (mask Cens (pattern 2 1) (entry 0 64 ∷ []))) (span 0 32 ++ span 48 16)
-    ∷ is (marked 0 (mask Cens (pattern 2 1) (entry 0 63 ∷ []))) (span 0 32)
+    ∷ is (marked 0 (mask Cens (cryptSkip 2 1) (entry 0 64 ∷ []))) (span 0 32 ++ span 48 16)
+    ∷ is (marked 0 (mask Cens (cryptSkip 2 1) (entry 0 63 ∷ []))) (span 0 32)
     -- 6. Counter bytes 8 to 15 all ff: next, they are zero.
     ∷ is (counterAt (span 1 8 ++ replicate 8 0xff) 1) (span 1 8 ++ replicate 8 0)
     -- 7. cbc1, no entries, 40 bytes in pieces 10, 10, 20: released 0, 16, 24.

@@ -1,12 +1,14 @@
 -- Document 01, "A sample's auxiliary data": the IV, the subsample map, and the numbers 7 to 12.
 use mathlib.Core.Bool.{Bool, false, cond, not, _&&_, _||_}
 use mathlib.Core.List.{List, [], _∷_, _++_}
+use mathlib.Core.Path.{_≡_, refl}
 use Prim.Native.Nat.{ℕ, zero, suc, _+_, _*_, _%_}
 use lib.Dec.{eqb, ltb}
 use lib.ListN.{length, getD, take, replicate}
 use Rattle.octets.specs.Answers.{Row, row, answer}
 use Rattle.octets.specs.Bytes.{listOf, same, number, filled}
-use Rattle.track_spec.specs.Track.{cbc1, zeros, hasConstant, fields, readRows}
+use Rattle.octets.specs.Cases.{Case, is, allMade, allSaid, span}
+use Rattle.track_spec.specs.Track.{cenc, cbc1, zeros, hasConstant, fields, readRows}
 use Rattle.track_spec.specs.declared.Parameters.{Parameters}
 use Rattle.subsample_spec.specs.declared.SubsampleMap.{SubsampleMap}
 use Rattle.subsample_spec.specs.declared.AuxiliaryRead.{AuxiliaryRead}
@@ -115,3 +117,43 @@ readUnder p aux n = handedOut (answer (auxiliaryRows p aux n)) p aux
 unfoldable pub readAuxiliary : List ℕ → List ℕ → List ℕ → ℕ → AuxiliaryRead
 readAuxiliary code box aux n =
     handedOut (answer (readRows code box ++ auxiliaryRows (fields code box) aux n)) (fields code box) aux
+
+-- ---- Worked examples.
+
+-- cenc with an IV of 8 bytes.
+abbrev ofEight : Parameters
+ofEight =
+    record {
+      code = cenc;
+      version = 0;
+      crypt = 0;
+      skip = 0;
+      protected = 1;
+      «iv_size» = 8;
+      kid = record { 0 = zeros };
+      «constant_iv» = record { 0 = zeros };
+    }
+
+-- The IV, then two entries: 5 clear and 32 protected bytes, 300 and 70,000.
+abbrev twoEntries : List ℕ
+twoEntries = span 1 8 ++ (0 ∷ 2 ∷ 0 ∷ 5 ∷ 0 ∷ 0 ∷ 0 ∷ 32 ∷ 0x01 ∷ 0x2c ∷ 0x00 ∷ 0x01 ∷ 0x11 ∷ 0x70 ∷ [])
+
+-- So many entries, in 64 places of one clear byte each.
+abbrev ofOne : ℕ → SubsampleMap
+ofOne count = record { clear = replicate limit 1; protected = replicate limit 0; count = count }
+
+pub examples : List Case
+examples =
+    is (answer (auxiliaryRows ofEight twoEntries (5 + 32 + 300 + 70000)) ∷ []) (0 ∷ [])
+    -- The IV is filled out with zeros, though entries follow it; unused places of the map are zero.
+    ∷ is (ivRead ofEight twoEntries) (span 1 8 ++ replicate 8 0)
+    ∷ is (mapRead ofEight twoEntries .clear) (5 ∷ 300 ∷ replicate 62 0)
+    ∷ is (mapRead ofEight twoEntries .protected) (32 ∷ 70000 ∷ replicate 62 0)
+    ∷ is (mapRead ofEight twoEntries .count ∷ []) (2 ∷ [])
+    -- 64 entries, and one too many.
+    ∷ is (answer (mapRows cenc (ofOne 64) 64) ∷ []) (0 ∷ [])
+    ∷ is (answer (mapRows cenc (ofOne 65) 64) ∷ []) (9 ∷ []) ∷ []
+
+pub examples-hold : allMade examples ≡ allSaid examples
+unfolding examples allMade allSaid answer auxiliaryRows badSize mapRows mapRead entryCount ivRead some sum number filled same
+examples-hold = refl

@@ -4,4 +4,3 @@ pub mod Checking
 pub mod RoundTrip
 pub mod Storing
 pub mod Depends
-pub mod Examples

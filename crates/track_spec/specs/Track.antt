@@ -1,13 +1,14 @@
 -- Document 01, "The track box": the four scheme codes, the parameters that are allowed, the box read and written.
 use mathlib.Core.Bool.{Bool, cond, not, _&&_, _||_}
 use mathlib.Core.List.{List, [], _∷_, _++_}
-use mathlib.Core.Path.{_≡_}
+use mathlib.Core.Path.{_≡_, refl}
 use Prim.Native.Nat.{ℕ, _+_, _*_, _/_, _%_}
 use lib.Dec.{eqb, leb, ltb}
 use lib.ListN.{length, getD, drop, replicate}
 use Rattle.octets.specs.Answers.{Row, row, answer}
 use Rattle.octets.specs.Ascii.{ascii}
-use Rattle.octets.specs.Bytes.{same, filled}
+use Rattle.octets.specs.Bytes.{same, number, digits, filled}
+use Rattle.octets.specs.Cases.{Case, is, allMade, allSaid, span}
 use Rattle.boxes.specs.Box as frame
 use Rattle.track_spec.specs.declared.Parameters.{Parameters}
 use Rattle.track_spec.specs.declared.BoxRead.{BoxRead}
@@ -179,3 +180,27 @@ writeBox p room =
 unfoldable pub afterWriting : Parameters → List ℕ → List ℕ
 afterWriting p out =
     cond (eqb (answer (writeRows p (length out))) 0) (boxBytes p ++ drop (boxLength (p .protected) (p .«iv_size»)) out) out
+
+-- ---- Worked examples: the box of document 01, "The sheet program".
+
+abbrev sheetBox : List ℕ
+sheetBox =
+    0x00 ∷ 0x00 ∷ 0x00 ∷ 0x31 ∷ 0x74 ∷ 0x65 ∷ 0x6e ∷ 0x63 ∷ 0x01 ∷ 0x00 ∷ 0x00 ∷ 0x00 ∷ 0x00 ∷ 0x19 ∷ 0x01 ∷ 0x00
+    ∷ span 0 16 ++ (0x10 ∷ replicate 16 0xaa)
+
+-- Version, pattern, protected flag, IV size, KID and constant IV.
+abbrev numbersOf : Parameters → List ℕ
+numbersOf p = p .version ∷ p .crypt ∷ p .skip ∷ p .protected ∷ p .«iv_size» ∷ p .kid .0 ++ p .«constant_iv» .0
+
+pub examples : List Case
+examples =
+    is (answer (readRows cbcs sheetBox) ∷ []) (0 ∷ [])
+    ∷ is (numbersOf (fields cbcs sheetBox)) (1 ∷ 1 ∷ 9 ∷ 1 ∷ 0 ∷ span 0 16 ++ replicate 16 0xaa)
+    ∷ is (boxBytes (fields cbcs sheetBox)) sheetBox
+    -- cenc has no pattern.
+    ∷ is (answer (readRows cenc sheetBox) ∷ []) (4 ∷ []) ∷ []
+
+pub examples-hold : allMade examples ≡ allSaid examples
+unfolding examples allMade allSaid answer readRows known same frame.badFrame number badHead badFields allowed allowedFields allowedProtected
+    fields fieldsFrom filled boxBytes frame.header fieldBytes digits
+examples-hold = refl
