@@ -48,8 +48,12 @@ enum cenc_number {
  * Each call answers one of the numbers above. A refused call changes nothing; no call writes outside the sample.
  *
  * The caller owes: a range is readable, and the sample writable, over its whole length; the sample overlaps no other
- * range; a pointer is NULL only if its length is 0, which is an empty range. Nothing is kept after a call, and calls on
+ * range; a pointer is NULL only if its length is 0, which is an empty range. Nothing is kept for the next call, and calls on
  * samples of their own may run at the same time.
+ *
+ * The caller has to know: Nothing authenticates a sample. With a wrong key under the right KID the answer is CENC_DONE, and the
+ * sample is garbage; a sample that was changed may be answered CENC_DONE as well. Copies of the key and of its round keys stay on
+ * the stack after a call. A call looks tables up by secret bytes, so that its time may depend on them.
  */
 uint8_t cenc_lock(const uint8_t *scheme, size_t scheme_length,
                   const uint8_t *box, size_t box_length,

@@ -1,4 +1,4 @@
-//! `include/cenc.h` over slices.
+//! `include/cenc.h` over slices. What it says of wrong keys, of key bytes that stay on the stack and of time holds here too.
 
 pub mod refusal;
 
