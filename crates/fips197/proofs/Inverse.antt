@@ -67,12 +67,6 @@ module _ (w : List State) (keys : (n : ℕ) → n < 11 → IsState (getD w n [])
   rounds-state zero h g = g
   rounds-state (suc n) h g = add-state (mix-state (sub-shift-state (rounds-state n (omega arith) g))) (keys (suc n) h)
 
-  inv-rounds-state : (n : ℕ) {s : State} → n < 11 → IsState s → IsState (invRounds w n s)
-  unfolding invRounds invRound
-  inv-rounds-state zero h g = g
-  inv-rounds-state (suc n) h g =
-      inv-rounds-state n (omega arith) (inv-mix-state (add-state (inv-sub-shift-state g) (keys (suc n) h)))
-
   inv-rounds-rounds : (n : ℕ) {s : State} → n < 11 → IsState s
       → invRounds w n (subShift (rounds w n s)) ≡ subShift s
   unfolding rounds round invRounds invRound
@@ -98,19 +92,17 @@ module _ (w : List State) (keys : (n : ℕ) → n < 11 → IsState (getD w n [])
       ∙ add-add (inv-sub-shift-state g) (keys (suc n) h))
       ∙ sub-shift-inv g
 
+  inv-rounds-state : (n : ℕ) {s : State} → n < 11 → IsState s → IsState (invRounds w n s)
+  unfolding invRounds invRound
+  inv-rounds-state zero h g = g
+  inv-rounds-state (suc n) h g =
+      inv-rounds-state n (omega arith) (inv-mix-state (add-state (inv-sub-shift-state g) (keys (suc n) h)))
+
   start : {s : State} → IsState s → IsState (addRoundKey s (getD w 0 []))
   start g = add-state g (keys 0 (omega arith))
 
   end : {s : State} → IsState s → IsState (addRoundKey s (getD w 10 []))
   end g = add-state g (keys 10 (omega arith))
-
-  pub cipher-state : {s : State} → IsState s → IsState (cipher w s)
-  unfolding cipher
-  cipher-state g = end (sub-shift-state (rounds-state 9 (omega arith) (start g)))
-
-  pub inv-cipher-state : {s : State} → IsState s → IsState (invCipher w s)
-  unfolding invCipher
-  inv-cipher-state g = start (inv-sub-shift-state (inv-rounds-state 9 (omega arith) (end g)))
 
   pub inv-cipher-cipher : {s : State} → IsState s → invCipher w (cipher w s) ≡ s
   unfolding cipher invCipher
@@ -128,3 +120,11 @@ module _ (w : List State) (keys : (n : ℕ) → n < 11 → IsState (getD w n [])
       (add-add (inv-sub-shift-state (inv-rounds-state 9 (omega arith) (end g))) (keys 0 (omega arith)))
       ∙ ap (λ (x : State). addRoundKey x (getD w 10 [])) (rounds-inv-rounds 9 (omega arith) (end g))
       ∙ add-add g (keys 10 (omega arith))
+
+  pub cipher-state : {s : State} → IsState s → IsState (cipher w s)
+  unfolding cipher
+  cipher-state g = end (sub-shift-state (rounds-state 9 (omega arith) (start g)))
+
+  pub inv-cipher-state : {s : State} → IsState s → IsState (invCipher w s)
+  unfolding invCipher
+  inv-cipher-state g = start (inv-sub-shift-state (inv-rounds-state 9 (omega arith) (end g)))
