@@ -1,5 +1,6 @@
 -- Cases as a document gives them: what the definitions make of some input, and what the document says of it, as lists of numbers.
 use mathlib.Core.List.{List, [], _∷_}
+use mathlib.Core.Path.{_≡_}
 use Prim.Native.Nat.{ℕ}
 
 pub record Case : Type 0 where
@@ -17,3 +18,7 @@ allMade (c ∷ cs) = c .made ∷ allMade cs
 unfoldable pub allSaid : List Case → List (List ℕ)
 allSaid [] = []
 allSaid (c ∷ cs) = c .said ∷ allSaid cs
+
+-- They are equal in every case.
+abbrev pub Hold : List Case → Type 0
+Hold cs = allMade cs ≡ allSaid cs
