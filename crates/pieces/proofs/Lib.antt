@@ -1,2 +1,3 @@
 pub mod LentEnd
 pub mod Progress
+pub mod Depends

@@ -1,4 +1,5 @@
--- What the answer of a whole-sample call depends on: not on key bytes, IV bytes or the sample's contents.
+-- What the answers depend on: that of finding a key not on its bytes, and that of a whole-sample call not on key bytes, IV bytes or the
+-- sample's contents.
 use mathlib.Core.Path.{_≡_, ap, _∙_}
 use mathlib.Core.List.{List}
 use Prim.Native.Nat.{ℕ}
@@ -7,15 +8,30 @@ use lib.ListN.{length}
 use Rattle.octets.specs.Answers.{answer}
 use Rattle.octets.proofs.Alike.{part-alike, filled-alike}
 use Rattle.octets.proofs.Answers.{join-alike}
+use Rattle.track_spec.specs.declared.Parameters.{Parameters}
 use Rattle.track_spec.specs.Track.{fieldsFrom, fields}
 use Rattle.track_spec.proofs.Checking.{read-refusals}
 use Rattle.track_spec.specs.Depends.{AlikeBoxes}
 use Rattle.track_spec.proofs.Depends.{read-alike}
 use Rattle.subsample_spec.specs.Depends.{AlikeData}
 use Rattle.subsample_spec.proofs.Depends.{fields-alike, map-alike, auxiliary-alike}
-use Rattle.sample_spec.specs.Sample.{Inputs, keyRows, parametersOf, mapOf, sampleRows}
-use Rattle.sample_spec.specs.Depends.{AlikeInputs}
+use Rattle.sample_spec.specs.Sample.{Inputs, keyRows, findKey, parametersOf, mapOf, sampleRows}
+use Rattle.sample_spec.specs.Depends.{AlikeKeys, AlikeInputs}
 use Rattle.sample_spec.proofs.Tables.{key-refusals}
+
+-- ---- Finding a key.
+
+module _ {p q : Parameters} {a b : List ℕ} (s : AlikeKeys p q a b) where
+  rows-alike : keyRows p a ≡ keyRows q b
+  unfolding keyRows
+  rows-alike = rw (s .protected, s .kid, s .size, part-alike a b 16 0 (s .size) (λ k l m. s .front k (omega arith)))
+
+  -- the same answer, whatever the bytes of the key
+  pub find-alike : findKey p a .answer ≡ findKey q b .answer
+  unfolding findKey
+  find-alike = ap answer rows-alike
+
+-- ---- Whole-sample calls and starts.
 
 module _ {i j : Inputs} (s : AlikeInputs i j) where
   pub boxes-alike : AlikeBoxes (i .box) (j .box)
@@ -34,15 +50,9 @@ module _ {i j : Inputs} (s : AlikeInputs i j) where
   unfolding parametersOf fields fieldsFrom
   kid-alike = filled-alike (i .box) (j .box) 16 16 (λ k l m. s .box-front k (omega arith))
 
-  key-alike : keyRows (parametersOf i) (i .keys) ≡ keyRows (parametersOf j) (j .keys)
-  unfolding keyRows
+  key-alike : AlikeKeys (parametersOf i) (parametersOf j) (i .keys) (j .keys)
   key-alike =
-      rw (
-        data-alike .protected,
-        kid-alike,
-        s .record-size,
-        part-alike (i .keys) (j .keys) 16 0 (s .record-size) (λ k l m. s .record-front k (omega arith)),
-      )
+      record { protected = data-alike .protected; kid = kid-alike; size = s .record-size; front = s .record-front }
 
   -- the same answer, for a sample of n bytes
   pub inputs-alike : (n : ℕ) → answer (sampleRows i n) ≡ answer (sampleRows j n)
@@ -50,7 +60,7 @@ module _ {i j : Inputs} (s : AlikeInputs i j) where
   inputs-alike n =
       join-alike (read-refusals (i .code) (i .box)) (read-refusals (j .code) (j .box)) _ _
       (read-alike boxes-alike (i .code) ∙ rw (s .code))
-      (join-alike (key-refusals (parametersOf i) (i .keys)) (key-refusals (parametersOf j) (j .keys)) _ _ (ap answer key-alike)
+      (join-alike (key-refusals (parametersOf i) (i .keys)) (key-refusals (parametersOf j) (j .keys)) _ _ (ap answer (rows-alike key-alike))
       (auxiliary-alike data-alike n))
 
   -- and so for two samples of one length, whatever they hold

@@ -1,9 +1,18 @@
--- Document 01, "Which number is answered .. never depends on key bytes, IV bytes or sample contents": what two whole-sample calls, or
--- two starts, may differ in.
+-- Document 01, "Which number is answered .. never depends on key bytes, IV bytes or sample contents": what two calls that find a key, two
+-- whole-sample calls, or two starts, may differ in.
+use mathlib.Core.List.{List}
 use mathlib.Core.Path.{_≡_}
 use Prim.Native.Nat.{ℕ, _≤_, _<_}
 use lib.ListN.{length, getD}
+use Rattle.track_spec.specs.declared.Parameters.{Parameters}
 use Rattle.sample_spec.specs.Sample.{Inputs}
+
+-- Parameters that agree in flag and KID, and key records of one length that differ at most in the key's bytes.
+pub record AlikeKeys (p q : Parameters) (a b : List ℕ) : Type 0 where
+  pub protected : p .protected ≡ q .protected
+  pub kid : p .kid .0 ≡ q .kid .0
+  pub size : length a ≡ length b
+  pub front : (k : ℕ) → k < 16 → getD a k 0 ≡ getD b k 0
 
 -- Inputs of two calls that differ at most in the bytes of the constant IV, of the IV in the auxiliary data, and of the key: they
 -- have one code, the boxes have one length and agree in their first 33 bytes, the data have one length and agree after the IV, and

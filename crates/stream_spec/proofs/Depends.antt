@@ -2,18 +2,16 @@
 use mathlib.Core.Bool.{Bool, true, false, cond, not, _&&_}
 use mathlib.Core.List.{List, _∷_}
 use mathlib.Core.Path.{_≡_, refl, sym, ap, ap₂, _∙_}
-use Prim.Native.Nat.{ℕ, _+_, _≤_}
-use native.Mathlib.Omega.{arith}
+use Prim.Native.Nat.{ℕ, _+_}
 use lib.Dec.{eqb}
 use lib.ListN.{length}
-use borrow.Author.Tests.{eqb-true, eqb-false, eq-eqb, ne-eqb}
+use borrow.Author.Tests.{eqb-true}
 use Rattle.octets.specs.Answers.{answer}
 use Rattle.modes_spec.specs.declared.Direction.{Direction}
 use Rattle.track_spec.specs.declared.Parameters.{Parameters}
-use Rattle.track_spec.specs.Track.{hasConstant, parameterRows, writeRows}
-use Rattle.track_spec.proofs.Checking.{write-refused, write-done}
+use Rattle.track_spec.specs.Track.{parameterRows}
 use Rattle.track_spec.specs.Depends.{AlikeParameters}
-use Rattle.track_spec.proofs.Depends.{write-alike}
+use Rattle.track_spec.proofs.Depends.{check-alike}
 use Rattle.track_spec.proofs.Depends as track
 use Rattle.subsample_spec.specs.declared.SubsampleMap.{SubsampleMap}
 use Rattle.scheme.specs.Layout.{patternOf}
@@ -30,25 +28,9 @@ use Rattle.stream_spec.proofs.Rules.{next-position, next-held, next-pla
 
 -- ---- Parameters.
 
-largest : (b : Bool) → cond b 49 32 ≤ 49
-largest true = omega arith
-largest false = omega arith
-
--- parameters that meet 1, 3 and 4 can be written, and others can't
-written : (p : Parameters) → eqb (answer (parameterRows p)) 0 ≡ eqb (answer (writeRows p 49)) 0
-written p = go (eqb (answer (parameterRows p)) 0) refl
-  where
-    go : (b : Bool) → eqb (answer (parameterRows p)) 0 ≡ b → b ≡ eqb (answer (writeRows p 49)) 0
-    go true e =
-        sym (eq-eqb (answer (writeRows p 49)) 0
-        (write-done p 49 (eqb-true (answer (parameterRows p)) 0 e) (largest (hasConstant (p .protected) (p .«iv_size»)))))
-    go false e =
-        let z : (answer (parameterRows p) ≡ 0) → ⊥ = eqb-false (answer (parameterRows p)) 0 e in
-        sym (ne-eqb (answer (writeRows p 49)) 0 (λ w. z (sym (write-refused p 49 (answer (parameterRows p)) refl z) ∙ w)))
-
 module _ {p q : Parameters} (s : AlikeParameters p q) where
   parameters-alike : eqb (answer (parameterRows p)) 0 ≡ eqb (answer (parameterRows q)) 0
-  parameters-alike = written p ∙ ap (λ (n : ℕ). eqb n 0) (write-alike p q s 49) ∙ sym (written q)
+  parameters-alike = ap (λ (n : ℕ). eqb n 0) (check-alike p q s)
 
   held-alike : (m : SubsampleMap) (n x : ℕ) → heldUnder p m n x ≡ heldUnder q m n x
   unfolding heldUnder entriesOf patternOf

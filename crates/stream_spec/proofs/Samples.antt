@@ -1,8 +1,8 @@
 -- Document 01's samples marked [P]: what the definitions make is what the document says, in every case.
-use mathlib.Core.Path.{_≡_, refl}
+use mathlib.Core.Path.{refl}
 use Rattle.octets.specs.Answers.{answer}
 use Rattle.octets.specs.Bytes.{same, number, digits, filled}
-use Rattle.octets.specs.Cases.{allMade, allSaid}
+use Rattle.octets.specs.Cases.{allMade, allSaid, Hold}
 use Rattle.octets.specs.Xor.{_⊕_}
 use Rattle.modes_spec.specs.Modes.{counterAt, streamByte, ctr}
 use Rattle.boxes.specs.Box.{badFrame}
@@ -17,7 +17,7 @@ use Rattle.sample_spec.specs.Sample.{keyRows, parametersOf, sampleRows}
 use Rattle.stream_spec.specs.Demand3.{countAt, dueAt, feeding, replyAt, pieceAt, account}
 use Rattle.stream_spec.specs.Samples.{samples, marked, unmarked, told}
 
-pub samples-hold : allMade samples ≡ allSaid samples
+pub samples-hold : Hold samples
 unfolding samples allMade allSaid marked unmarked told counterBlocks blocksNeeded count protectedEntries mask marks
     rangeMarks tabulate isCiphered inWholeBlock inCryptRun whole over replaced chosen ctr streamByte counterAt digits number
     _⊕_ account replyAt pieceAt feeding countAt dueAt heldUnder heldAt inBlock inPlace place entriesOf schemeOf patternOf same parametersOf fields fieldsFrom

@@ -7,7 +7,7 @@ use lib.ListN.{length, take, drop, replicate}
 use Rattle.octets.specs.Answers.{answer}
 use Rattle.octets.specs.Ascii.{ascii}
 use Rattle.octets.specs.Bytes.{digits, filled}
-use Rattle.octets.specs.Cases.{Case, is, span}
+use Rattle.octets.specs.Cases.{Case, is, Hold, span}
 use Rattle.modes_spec.specs.declared.Direction.the-variants.{Lock, Open}
 use Rattle.track_spec.specs.declared.Parameters.{Parameters}
 use Rattle.track_spec.specs.Track.{cenc, cbc1, cens, cbcs, tenc, zeros, unprotected, readBox, parameterRows, writeBox}
@@ -241,48 +241,63 @@ unsound =
     ∷ streamAt cbc1Track 40 emptyMap 10 0
     ∷ streamAt cbc1Track 40 emptyMap 10 11 ∷ []
 
--- Feeding k bytes with some room: the answer and the bytes released.
-abbrev pub fed : Stream → ℕ → ℕ → List ℕ
-fed t k room = feed t (replicate k 0) room .answer ∷ feed t (replicate k 0) room .released ∷ []
+-- ---- The calls, each with what the document says of it.
 
--- Writing into some room: the answer and the box's length.
+-- "The box reader uses 1 to 4."
+unfoldable pub boxReader : List Case
+boxReader = asked (λ q. readBox (q .inputs .code) (q .inputs .box) .answer) boxes ∷ []
+
+-- "the box writer 1, 3, 4, 17": the answer and the box's length in some room; 4 before 17.
 abbrev pub written : Parameters → ℕ → List ℕ
 written p room = writeBox p room .answer ∷ writeBox p room .length ∷ []
 
--- ---- The calls.
+unfoldable pub boxWriter : List Case
+boxWriter =
+    asked (λ p. writeBox p 49 .answer) parameters
+    ∷ is (written cenc8 32) (0 ∷ 32 ∷ []) ∷ is (written cbcsTrack 49) (0 ∷ 49 ∷ [])
+    ∷ is (written cenc8 31) (17 ∷ 0 ∷ []) ∷ is (written cbcsTrack 48) (17 ∷ 0 ∷ [])
+    ∷ is (written (parametersWith cenc 0 0 0 1 7 zeros) 0) (4 ∷ 0 ∷ []) ∷ []
 
--- What is asked of the reader of auxiliary data, and of whole samples and starts.
-abbrev pub ofReader : List (Asked Given)
-ofReader = boxes ++ (auxiliaries ++ boxThenData)
+-- Of parameters by themselves 1, 3 and 4.
+unfoldable pub parameterCheck : List Case
+parameterCheck = asked (λ p. answer (parameterRows p)) parameters ∷ []
 
+-- "A public reader of auxiliary data takes code, box and sample length and uses 1 to 4 and 7 to 12."
+unfoldable pub auxiliaryReader : List Case
+auxiliaryReader =
+    asked (λ q. readAuxiliary (q .inputs .code) (q .inputs .box) (q .inputs .auxiliary) (q .length) .answer)
+    (boxes ++ (auxiliaries ++ boxThenData)) ∷ []
+
+-- Under given parameters 7 to 12, of a map by itself 9 to 12, of a key record by itself 5 and 6.
+unfoldable pub underParameters : List Case
+underParameters = asked (λ q. readUnder (parametersOf (q .inputs)) (q .inputs .auxiliary) (q .length) .answer) auxiliaries ∷ []
+
+unfoldable pub mapCheck : List Case
+mapCheck = asked (λ c. answer (mapRows (c .code) (c .map) (c .length))) maps ∷ []
+
+unfoldable pub keyFinder : List Case
+keyFinder = asked (λ q. findKey (parametersOf (q .inputs)) (q .inputs .keys) .answer) keyRecords ∷ []
+
+-- "Whole-sample calls and the start of a stream use 1 to 12".
 abbrev pub ofSample : List (Asked Given)
 ofSample = boxes ++ (keyRecords ++ (auxiliaries ++ (boxThenData ++ boxThenKeys)))
 
-unfoldable pub numbers : List Case
-numbers =
-    -- "The box reader uses 1 to 4."
-    asked (λ q. readBox (q .inputs .code) (q .inputs .box) .answer) boxes
-    -- "the box writer 1, 3, 4, 17": 4 before 17
-    ∷ asked (λ p. writeBox p 49 .answer) parameters
-    ∷ is (written cenc8 32) (0 ∷ 32 ∷ []) ∷ is (written cbcsTrack 49) (0 ∷ 49 ∷ [])
-    ∷ is (written cenc8 31) (17 ∷ 0 ∷ []) ∷ is (written cbcsTrack 48) (17 ∷ 0 ∷ [])
-    ∷ is (written (parametersWith cenc 0 0 0 1 7 zeros) 0) (4 ∷ 0 ∷ [])
-    -- the check of parameters: 1, 3 and 4
-    ∷ asked (λ p. answer (parameterRows p)) parameters
-    -- "A public reader of auxiliary data takes code, box and sample length and uses 1 to 4 and 7 to 12."
-    ∷ asked (λ q. readAuxiliary (q .inputs .code) (q .inputs .box) (q .inputs .auxiliary) (q .length) .answer) ofReader
-    -- under given parameters 7 to 12, and the check of a map 9 to 12
-    ∷ asked (λ q. readUnder (parametersOf (q .inputs)) (q .inputs .auxiliary) (q .length) .answer) auxiliaries
-    ∷ asked (λ c. answer (mapRows (c .code) (c .map) (c .length))) maps
-    -- finding a key: 5 and 6
-    ∷ asked (λ q. findKey (parametersOf (q .inputs)) (q .inputs .keys) .answer) keyRecords
-    -- "Whole-sample calls and the start of a stream use 1 to 12"
-    ∷ asked (λ q. answered (q .inputs) (q .length)) ofSample
-    ∷ asked (λ q. readInputs (q .inputs) (q .length) .answer) ofSample
-    ∷ asked (λ q. start Lock (q .inputs) (q .length) .answer) ofSample
-    ∷ asked (λ q. start Open (q .inputs) (q .length) .answer) ofSample
-    -- "feeding uses 13 to 15"; "zero bytes are released" on any refusal
-    ∷ is (map (λ t. feed t [] 0 .answer) unsound) (replicate 13 13)
+unfoldable pub wholeSample : List Case
+wholeSample =
+    asked (λ q. answered (q .inputs) (q .length)) ofSample ∷ asked (λ q. readInputs (q .inputs) (q .length) .answer) ofSample ∷ []
+
+unfoldable pub starting : List Case
+starting =
+    asked (λ q. start Lock (q .inputs) (q .length) .answer) ofSample
+    ∷ asked (λ q. start Open (q .inputs) (q .length) .answer) ofSample ∷ []
+
+-- "feeding uses 13 to 15": the answer and the bytes released, for k bytes with some room; none on a refusal.
+abbrev pub fed : Stream → ℕ → ℕ → List ℕ
+fed t k room = feed t (replicate k 0) room .answer ∷ feed t (replicate k 0) room .released ∷ []
+
+unfoldable pub feeding : List Case
+feeding =
+    is (map (λ t. feed t [] 0 .answer) unsound) (replicate 13 13)
     ∷ is (map (λ t. feed t [] 0 .released) unsound) (replicate 13 0)
     ∷ is (fed (streamAt cenc8 20 emptyMap 10 0) 10 10) (0 ∷ 10 ∷ [])
     ∷ is (fed (streamAt cenc8 20 emptyMap 10 0) 0 0) (0 ∷ 0 ∷ [])
@@ -293,7 +308,25 @@ numbers =
     ∷ is (fed (streamAt cbc1Track 40 emptyMap 10 10) 6 15) (15 ∷ 0 ∷ [])
     -- 13 before 14, 14 before 15
     ∷ is (fed (streamAt cenc8 20 emptyMap 10 1) 11 20) (13 ∷ 0 ∷ [])
-    ∷ is (fed (streamAt cenc8 20 emptyMap 10 0) 11 0) (14 ∷ 0 ∷ [])
-    -- "the end 13 and 16": 13 before 16
-    ∷ is (map (λ t. end t .answer) unsound) (replicate 13 13)
+    ∷ is (fed (streamAt cenc8 20 emptyMap 10 0) 11 0) (14 ∷ 0 ∷ []) ∷ []
+
+-- "the end 13 and 16": 13 before 16, as most of the records have not reached their length.
+unfoldable pub ending : List Case
+ending =
+    is (map (λ t. end t .answer) unsound) (replicate 13 13)
     ∷ is (end (streamAt cenc8 20 emptyMap 20 0) .answer ∷ end (streamAt cenc8 20 emptyMap 19 0) .answer ∷ []) (0 ∷ 16 ∷ []) ∷ []
+
+-- ---- The claim, for all of them.
+
+pub record Numbers : Type 0 where
+  pub box-reader : Hold boxReader
+  pub box-writer : Hold boxWriter
+  pub parameter-check : Hold parameterCheck
+  pub auxiliary-reader : Hold auxiliaryReader
+  pub under-parameters : Hold underParameters
+  pub map-check : Hold mapCheck
+  pub key-finder : Hold keyFinder
+  pub whole-sample : Hold wholeSample
+  pub starting : Hold starting
+  pub feeding : Hold feeding
+  pub ending : Hold ending

@@ -11,7 +11,7 @@ use Rattle.octets.proofs.Alike.{number-alike}
 use Rattle.octets.proofs.Bytes.{same-true}
 use Rattle.boxes.proofs.Frame.{frame-alike}
 use Rattle.track_spec.specs.declared.Parameters.{Parameters}
-use Rattle.track_spec.specs.Track.{tenc, zeros, hasConstant, allowedFields, allowed, fieldsFrom, fields, badHead, badFields, readRows, writeRows}
+use Rattle.track_spec.specs.Track.{tenc, zeros, hasConstant, allowedFields, allowed, fieldsFrom, fields, badHead, badFields, readRows, parameterRows, writeRows}
 use Rattle.track_spec.specs.Depends.{AlikeBoxes, AlikeParameters}
 
 -- Where none is called for the reader sets the constant IV to zero.
@@ -87,6 +87,11 @@ module _ (p q : Parameters) (s : AlikeParameters p q) where
   permitted-alike : allowed p ≡ allowed q
   unfolding allowed
   permitted-alike = rw (constant-alike, s .code, s .protected, s .iv-size, s .crypt, s .skip)
+
+  -- the answer of the check of parameters
+  pub check-alike : answer (parameterRows p) ≡ answer (parameterRows q)
+  unfolding answer
+  check-alike = rw (permitted-alike, s .code, s .version, s .crypt, s .skip)
 
   -- the writer's answer
   pub write-alike : (room : ℕ) → answer (writeRows p room) ≡ answer (writeRows q room)
