@@ -16,9 +16,9 @@ use Rattle.stream_spec.specs.declared.Started.{Started}
 use Rattle.stream_spec.specs.Stream.{heldBy, declaredBy, start, due, fedBy, feed, outputAfter, end}
 use Rattle.stream_spec.specs.Demand3.{Feeding, Ending, Reply, countAt, dueAt, feeding, ending, replyAt, pieceAt, make}
 use Rattle.stream_spec.proofs.Accepted.{rules}
-use Rattle.stream_spec.proofs.Reached.{Rules, fed, at, at-sum, Moves, moves}
+use Rattle.stream_spec.proofs.Reached.{Rules, fed, at, at-sum}
 use Rattle.stream_spec.proofs.Feeding.{released-fits}
-use Rattle.stream_spec.proofs.Demand3.{accepts, begun, all-of-it}
+use Rattle.stream_spec.proofs.Demand3.{Moves, moves, accepts, begun, all-of-it}
 use Rattle.pieces.specs.Pieces.{answered, output}
 
 none : (l : List ℕ) → length l ≡ 0 → l ≡ []

@@ -58,20 +58,31 @@ chained d s p es xs ys =
       result = ys;
     }
 
-unfoldable pub examples : List Example
-examples =
+-- ---- Counter schemes.
+
+unfoldable pub counterExamples : List Example
+counterExamples =
     -- cenc: the key stream continues across entries, also in mid-block, with no fresh counter block.
     counted Cenc (cryptSkip 0 0) (entry 0 10 ∷ entry 4 10 ∷ []) (replicate 24 0) (span 0 10 ++ (replicate 4 0 ++ span 10 10))
     -- cens: a last part shorter than 16 stays clear, and is not padded.
     ∷ counted Cens (cryptSkip 2 1) (entry 0 24 ∷ []) (replicate 24 0) (span 0 16 ++ replicate 8 0)
     -- The pattern starts anew in each range, and the counter goes on.
-    ∷ counted Cens (cryptSkip 2 1) (entry 0 16 ∷ entry 0 48 ∷ []) (replicate 64 0) (span 0 48 ++ replicate 16 0)
-    -- cbc1: the chain continues across entries; a remainder stays clear.
-    ∷ chained Lock Cbc1 (cryptSkip 0 0) (entry 0 16 ∷ entry 4 16 ∷ []) (block 1 ++ (replicate 4 7 ++ block 2))
+    ∷ counted Cens (cryptSkip 1 1) (entry 0 16 ∷ entry 0 32 ∷ []) (replicate 48 0) (span 0 32 ++ replicate 16 0) ∷ []
+
+-- ---- Chain schemes.
+
+unfoldable pub cbc1Examples : List Example
+cbc1Examples =
+    -- The chain continues across entries.
+    chained Lock Cbc1 (cryptSkip 0 0) (entry 0 16 ∷ entry 4 16 ∷ []) (block 1 ++ (replicate 4 7 ++ block 2))
     (block (1 + 128 + 32) ++ (replicate 4 7 ++ block (2 + 1 + 128)))
-    ∷ chained Lock Cbc1 (cryptSkip 0 0) (entry 0 20 ∷ []) (block 1 ++ replicate 4 7) (block (1 + 128 + 32) ++ replicate 4 7)
-    -- cbcs: chain and pattern start anew in each range.
-    ∷ chained Lock Cbcs (cryptSkip 1 1) (entry 0 16 ∷ entry 4 16 ∷ []) (block 1 ++ (replicate 4 7 ++ block 2))
+    -- A remainder stays clear.
+    ∷ chained Lock Cbc1 (cryptSkip 0 0) (entry 0 20 ∷ []) (block 1 ++ replicate 4 7) (block (1 + 128 + 32) ++ replicate 4 7) ∷ []
+
+unfoldable pub cbcsExamples : List Example
+cbcsExamples =
+    -- Chain and pattern start anew in each range.
+    chained Lock Cbcs (cryptSkip 1 1) (entry 0 16 ∷ entry 4 16 ∷ []) (block 1 ++ (replicate 4 7 ++ block 2))
     (block (1 + 128 + 32) ++ (replicate 4 7 ++ block (2 + 128 + 32)))
     -- The chain passes over skipped blocks, and a last part stays clear.
     ∷ chained Lock Cbcs (cryptSkip 1 1) (entry 0 52 ∷ []) (block 1 ++ (block 2 ++ (block 4 ++ replicate 4 7)))
@@ -79,10 +90,11 @@ examples =
     ∷ chained Open Cbcs (cryptSkip 1 1) (entry 0 52 ∷ []) (block 1 ++ (block 2 ++ (block 4 ++ replicate 4 7)))
     (block (1 + 64 + 128) ++ (block 2 ++ (block (4 + 64 + 1) ++ replicate 4 7))) ∷ []
 
--- What is made of each by a definition, and what should be.
+-- ---- What a definition makes of them, and what it should.
+
 unfoldable pub madeBy : (Example → List ℕ) → List Example → List (List ℕ)
 madeBy f [] = []
 madeBy f (e ∷ es) = f e ∷ madeBy f es
 
-abbrev pub results : List (List ℕ)
-results = madeBy (λ (e : Example). e .result) examples
+abbrev pub results : List Example → List (List ℕ)
+results es = madeBy (λ (e : Example). e .result) es

@@ -12,7 +12,7 @@ use Rattle.scheme.specs.declared.Pattern.{Pattern}
 use Rattle.scheme.specs.declared.Scheme.{Scheme}
 use Rattle.scheme.specs.declared.Scheme.the-variants.{Cenc, Cbc1, Cens, Cbcs}
 use Rattle.scheme.specs.Layout.{Entry, inWholeBlock, inCryptRun, isCiphered, tabulate, rangeMarks, marks, mask, chosen, replaced}
-use Rattle.scheme.specs.Examples.{Example, examples, madeBy, results}
+use Rattle.scheme.specs.Examples.{Example, counterExamples, cbc1Examples, cbcsExamples, madeBy, results}
 
 -- f over the marked bytes, taken as one run; every other byte stays.
 unfoldable pub over : (List ℕ → List ℕ) → List Bool → List ℕ → List ℕ
@@ -39,7 +39,17 @@ module _ (E D : Cipher) (iv : List ℕ) (pattern : Pattern) (es : List Entry) wh
 abbrev pub wholly : Example → List ℕ
 wholly e = whole (e .E) (e .D) (e .iv) (e .pattern) (e .entries) (e .direction) (e .scheme) (e .sample)
 
-pub whole-examples-hold : madeBy wholly examples ≡ results
-unfolding examples madeBy whole over overEach mask marks rangeMarks tabulate isCiphered inWholeBlock inCryptRun chosen replaced
-    ctr streamByte counterAt number digits cbc cbcBlocks blockOut blockChain xors _⊕_
-whole-examples-hold = refl
+pub counter-examples-hold : madeBy wholly counterExamples ≡ results counterExamples
+unfolding counterExamples madeBy whole over mask marks rangeMarks tabulate isCiphered inWholeBlock inCryptRun chosen replaced ctr streamByte
+    counterAt number digits _⊕_
+counter-examples-hold = refl
+
+pub cbc1-examples-hold : madeBy wholly cbc1Examples ≡ results cbc1Examples
+unfolding cbc1Examples madeBy whole over mask marks rangeMarks tabulate isCiphered inWholeBlock chosen replaced cbc cbcBlocks blockOut
+    blockChain xors _⊕_
+cbc1-examples-hold = refl
+
+pub cbcs-examples-hold : madeBy wholly cbcsExamples ≡ results cbcsExamples
+unfolding cbcsExamples madeBy whole over overEach mask marks rangeMarks tabulate isCiphered inWholeBlock inCryptRun chosen replaced cbc cbcBlocks
+    blockOut blockChain xors _⊕_
+cbcs-examples-hold = refl

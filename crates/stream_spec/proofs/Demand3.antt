@@ -72,12 +72,12 @@ module _ (q : Declared) (iv : List ℕ) where
           ))
 
     -- what a call does to the record, and what it reports and releases
-    record Moves (c : Call) : Type 0 where
-      reply : make (at q iv a) c .reply ≡ replyAt H n (length a) c
-      stream : make (at q iv a) c .stream ≡ at q iv (a ++ pieceAt H n (length a) c)
-      released : fed q iv a .released ++ take (make (at q iv a) c .reply .released) (make (at q iv a) c .output)
+    pub record Moves (c : Call) : Type 0 where
+      pub reply : make (at q iv a) c .reply ≡ replyAt H n (length a) c
+      pub stream : make (at q iv a) c .stream ≡ at q iv (a ++ pieceAt H n (length a) c)
+      pub released : fed q iv a .released ++ take (make (at q iv a) c .reply .released) (make (at q iv a) c .output)
           ≡ fed q iv (a ++ pieceAt H n (length a) c) .released
-      within : length (a ++ pieceAt H n (length a) c) ≤ n
+      pub within : length (a ++ pieceAt H n (length a) c) ≤ n
 
     module _ (r : Rules q) (l : length a ≤ n) where
       at-answer : (k room : ℕ)
@@ -155,7 +155,7 @@ module _ (q : Declared) (iv : List ℕ) where
             within = rw append-nil l;
           }
 
-      moves : (c : Call) → Moves c
+      pub moves : (c : Call) → Moves c
       moves (Feeding piece out) = moves-fed piece out
       moves Ending = moves-end
 
