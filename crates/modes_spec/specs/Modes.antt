@@ -5,7 +5,7 @@ use mathlib.Core.Path.{_≡_, refl}
 use Prim.Native.Nat.{ℕ, zero, suc, _+_, _/_, _%_, _^_}
 use lib.ListN.{length, getD, take, drop, replicate}
 use Rattle.octets.specs.Bytes.{number, digits}
-use Rattle.octets.specs.Cases.{Case, is, allMade, allSaid, span}
+use Rattle.octets.specs.Cases.{Case, is, allMade, allSaid, Hold, span}
 use Rattle.octets.specs.Xor.{_⊕_}
 use Rattle.modes_spec.specs.declared.Direction.{Direction}
 use Rattle.modes_spec.specs.declared.Direction.the-variants.{Lock, Open}
@@ -94,6 +94,6 @@ examples =
     ∷ is (chainEnd (adding 32) (adding 64) Lock (block 128) (blocksAndRest (block 1) (block 2))) (block (2 + 1 + 128))
     ∷ is (chainEnd (adding 32) (adding 64) Open (block 128) (blocksAndRest (block 1) (block 2))) (block 2) ∷ []
 
-pub examples-hold : allMade examples ≡ allSaid examples
+pub examples-hold : Hold examples
 unfolding examples allMade allSaid counterAt number digits ctr streamByte xors _⊕_ cbc cbcBlocks blockOut blockChain chainEnd chainBlocks
 examples-hold = refl

@@ -9,7 +9,7 @@ use lib.Dec.{eqb}
 use lib.ListN.{length, getD, take, drop, replicate}
 use Rattle.octets.specs.Answers.{Row, row, answer}
 use Rattle.octets.specs.Bytes.{listOf, same, number, digits, filled}
-use Rattle.octets.specs.Cases.{Case, is, allMade, allSaid, span}
+use Rattle.octets.specs.Cases.{Case, is, allMade, allSaid, Hold, span}
 use Rattle.octets.specs.Xor.{_⊕_}
 use Rattle.aes.specs.Block.{roundKeys, encipher, decipher, encipher-length, decipher-length}
 use Rattle.modes_spec.specs.declared.Direction.{Direction}
@@ -150,7 +150,7 @@ examples =
     ∷ is (answer (sampleRows (inputs cenc box [] []) 20) ∷ []) (5 ∷ [])
     ∷ is (sampleAfter Lock (inputs cenc box iv kid) (span 1 20)) (span 1 20) ∷ []
 
-pub examples-hold : allMade examples ≡ allSaid examples
+pub examples-hold : Hold examples
 unfolding examples allMade allSaid sampleAfter sampleRows cipheredBy parametersOf keyOf mapOf ivOf keyRows keyIn readRows known same
     badFrame number badHead badFields allowed allowedFields allowedProtected fields fieldsFrom filled auxiliaryRows badSize mapRows mapRead
     entryCount some sum ivRead answer ciphered entriesOf protectedEntries schemeOf patternOf whole over mask marks rangeMarks tabulate

@@ -1,12 +1,12 @@
 -- Document 01, "Pieces": the bytes at the end of the first x that lie in a CBC block that will be ciphered and isn't complete yet.
 use mathlib.Core.Bool.{cond}
 use mathlib.Core.List.{List, [], _∷_, _++_}
-use mathlib.Core.Path.{_≡_, refl}
+use mathlib.Core.Path.{refl}
 use Prim.Native.Nat.{ℕ, _-_, _%_}
 use lib.Dec.{ltb}
 use lib.ListN.{replicate}
 use Rattle.octets.specs.Bytes.{listOf}
-use Rattle.octets.specs.Cases.{Case, is, allMade, allSaid, span}
+use Rattle.octets.specs.Cases.{Case, is, allMade, allSaid, Hold, span}
 use Rattle.scheme.specs.declared.Pattern.{Pattern}
 use Rattle.scheme.specs.declared.Scheme.{Scheme}
 use Rattle.scheme.specs.declared.Scheme.the-variants.{Cenc, Cbc1, Cens, Cbcs}
@@ -57,6 +57,6 @@ heldExamples =
     ∷ is (heldThrough Cenc (cryptSkip 0 0) (entry 2 40 ∷ [])) (replicate 43 0)
     ∷ is (heldThrough Cens (cryptSkip 1 1) (entry 2 40 ∷ [])) (replicate 43 0) ∷ []
 
-pub held-examples-hold : allMade heldExamples ≡ allSaid heldExamples
+pub held-examples-hold : Hold heldExamples
 unfolding heldExamples allMade allSaid heldAt inBlock inPlace place isCiphered inWholeBlock inCryptRun
 held-examples-hold = refl

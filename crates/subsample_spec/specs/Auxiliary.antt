@@ -1,13 +1,13 @@
 -- Document 01, "A sample's auxiliary data": the IV, the subsample map, and the numbers 7 to 12.
 use mathlib.Core.Bool.{Bool, false, cond, not, _&&_, _||_}
 use mathlib.Core.List.{List, [], _∷_, _++_}
-use mathlib.Core.Path.{_≡_, refl}
+use mathlib.Core.Path.{refl}
 use Prim.Native.Nat.{ℕ, zero, suc, _+_, _*_, _%_}
 use lib.Dec.{eqb, ltb}
 use lib.ListN.{length, getD, take, replicate}
 use Rattle.octets.specs.Answers.{Row, row, answer}
 use Rattle.octets.specs.Bytes.{listOf, same, number, filled}
-use Rattle.octets.specs.Cases.{Case, is, allMade, allSaid, span}
+use Rattle.octets.specs.Cases.{Case, is, allMade, allSaid, Hold, span}
 use Rattle.track_spec.specs.Track.{cenc, cbc1, zeros, hasConstant, fields, readRows}
 use Rattle.track_spec.specs.declared.Parameters.{Parameters}
 use Rattle.subsample_spec.specs.declared.SubsampleMap.{SubsampleMap}
@@ -154,6 +154,6 @@ examples =
     ∷ is (answer (mapRows cenc (ofOne 64) 64) ∷ []) (0 ∷ [])
     ∷ is (answer (mapRows cenc (ofOne 65) 64) ∷ []) (9 ∷ []) ∷ []
 
-pub examples-hold : allMade examples ≡ allSaid examples
+pub examples-hold : Hold examples
 unfolding examples allMade allSaid answer auxiliaryRows badSize mapRows mapRead entryCount ivRead some sum number filled same
 examples-hold = refl

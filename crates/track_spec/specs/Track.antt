@@ -8,7 +8,7 @@ use lib.ListN.{length, getD, drop, replicate}
 use Rattle.octets.specs.Answers.{Row, row, answer}
 use Rattle.octets.specs.Ascii.{ascii}
 use Rattle.octets.specs.Bytes.{same, number, digits, filled}
-use Rattle.octets.specs.Cases.{Case, is, allMade, allSaid, span}
+use Rattle.octets.specs.Cases.{Case, is, allMade, allSaid, Hold, span}
 use Rattle.boxes.specs.Box as frame
 use Rattle.track_spec.specs.declared.Parameters.{Parameters}
 use Rattle.track_spec.specs.declared.BoxRead.{BoxRead}
@@ -200,7 +200,7 @@ examples =
     -- cenc has no pattern.
     ∷ is (answer (readRows cenc sheetBox) ∷ []) (4 ∷ []) ∷ []
 
-pub examples-hold : allMade examples ≡ allSaid examples
+pub examples-hold : Hold examples
 unfolding examples allMade allSaid answer readRows known same frame.badFrame number badHead badFields allowed allowedFields allowedProtected
     fields fieldsFrom filled boxBytes frame.header fieldBytes digits
 examples-hold = refl
