@@ -128,9 +128,9 @@ module _ (c : Call) where
         ∙ rw (e, eq-eqb n n refl)
 
   module _ {out : List ℕ} {t : Stream} {x d : ℕ} (g : Progress out t x d) where
-    -- what is released fits
-    pub room : d ≤ length out₀
-    room = omega (arith, sum-at (g .call) x (g .within), g .done, g .within, g .call .room)
+    -- what is released is no more than was fed, and that fits
+    pub room : (d ≤ x) × (x ≤ length out₀)
+    room = (omega (arith, sum-at (g .call) x (g .within), g .done), omega (arith, g .within, g .call .room))
 
     -- the output keeps its length
     pub length-out : length out ≡ length out₀

@@ -3,7 +3,7 @@ use mathlib.Core.Bool.{false}
 use mathlib.Core.Path.{_≡_, sym, ap, _∙_}
 use lib.ListN.{length, take, drop, length-take, length-drop}
 use borrow.Author.Tests.{lt-ltb, le-ltb, eq-eqb, ne-eqb}
-use Rattle.octets.specs.Bytes.{same}
+use Rattle.octets.specs.Bytes.{same, number}
 use Rattle.octets.proofs.Bytes.{same-false}
 use Rattle.boxes.specs.Box.{badFrame}
 use borrow.Author.Needs.{needs}
@@ -16,11 +16,16 @@ sized c = c .before
 
 returns : tie.Need-returns
 unfolding badFrame
-returns c = rw (lt-ltb _ _ (c .if1 .taken))
+returns c =
+    let a = c .before .before .args in
+    rw (lt-ltb (length (a .slice .now)) (a .least) (omega (arith, c .if1 .taken)))
 
 returns-2 : tie.Need-returns-2
 unfolding badFrame
-returns-2 c = rw (le-ltb _ _ (c .before .before .if1 .left), ne-eqb _ _ (λ e. c .if2 .taken (c .before .be32 .ensures ∙ e)))
+returns-2 c =
+    let s = c .before in
+    let b = s .before .before .before .args .slice .now in
+    rw (le-ltb _ _ (s .before .if1 .left), ne-eqb (number 4 b 0) (length b) (omega (arith, c .if2 .taken, s .be32 .ensures)))
 
 returns-3 : tie.Need-returns-3
 unfolding badFrame

@@ -1,8 +1,10 @@
 -- the places: a record of 32 bytes for a protected track, and the start
-use mathlib.Core.Path.{sym, _∙_}
-use lib.ListN.{length}
+use mathlib.Core.Bool.{true, false}
+use mathlib.Core.Path.{_≡_, sym, _∙_}
+use lib.ListN.{length, take}
 use borrow.Author.Tests.{eq-eqb, ne-eqb, not-true, not-false}
 use Rattle.octets.specs.Answers.{answer}
+use Rattle.octets.specs.Bytes.{same}
 use Rattle.sample_spec.specs.Sample.{keyRows, keyIn, findKey}
 use borrow.Author.Needs.{needs}
 use Rattle.sample.proofs.find_key.Statement.{statement}
@@ -31,7 +33,8 @@ returns-3 c =
     let s = c .before .before in
     let z = sized s in
     let a = start z .args in
-    let d = sym (rw (s .before .before .bytes .ensures) at (s .same .ensures)) ∙ not-true _ (c .before .if3 .taken) in
+    let d : same (take 16 (a .«key-record» .now)) (a .parameters .kid .0) ≡ false =
+    sym (rw (s .before .before .bytes .ensures) at (s .same .ensures)) ∙ not-true _ (c .before .if3 .taken) in
     c .no-key3 .ensures
     ∙ rw (eq-eqb (a .parameters .protected) 1 (z .before .if1 .left), eq-eqb (length (a .«key-record» .now)) 32 (z .if2 .left), d)
 
@@ -41,7 +44,8 @@ returns-4 c =
     let s = c .before .before .before in
     let z = sized s in
     let a = start z .args in
-    let d = sym (rw (s .before .before .bytes .ensures) at (s .same .ensures)) ∙ not-false _ (c .before .before .if3 .left) in
+    let d : same (take 16 (a .«key-record» .now)) (a .parameters .kid .0) ≡ true =
+    sym (rw (s .before .before .bytes .ensures) at (s .same .ensures)) ∙ not-false _ (c .before .before .if3 .left) in
     rw (
       eq-eqb (a .parameters .protected) 1 (z .before .if1 .left),
       eq-eqb (length (a .«key-record» .now)) 32 (z .if2 .left),

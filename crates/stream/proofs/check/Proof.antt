@@ -66,7 +66,7 @@ sub-due c =
     let h = c .before in
     let e = checked (h .before .before) in
     let a = start e .args in
-    rw (h .held-by .ensures) (kept-within (a .stream) (is-sound e) (sixteen (start e)) (a .n))
+    omega (arith, h .held-by .ensures, kept-within (a .stream) (is-sound e) (sixteen (start e)) (a .n))
 
 returns-3 : tie.Need-returns-3
 unfolding due
@@ -77,7 +77,7 @@ returns-3 c =
     let e = checked w in
     let a = start e .args in
     c .refused3 .ensures
-    ∙ short (a .stream) (a .n) (a .room) (is-sound e) (within w) (rw (h .held-by .ensures) at (t .if3 .taken))
+    ∙ short (a .stream) (a .n) (a .room) (is-sound e) (within w) (omega (arith, h .held-by .ensures, t .if3 .taken))
 
 returns-4 : tie.Need-returns-4
 unfolding due
@@ -87,7 +87,7 @@ returns-4 c =
     let e = checked w in
     let a = start e .args in
     rw (h .held-by .ensures)
-    (enough (a .stream) (a .n) (a .room) (is-sound e) (within w) (rw (h .held-by .ensures) at (c .if3 .left)))
+    (enough (a .stream) (a .n) (a .room) (is-sound e) (within w) (omega (arith, h .held-by .ensures, c .if3 .left)))
 
 pub check-spec : {M : Type 1} → statement M
 check-spec =

@@ -1,7 +1,7 @@
 -- the places: the piece accepted and not empty, and what was lent
 use mathlib.Core.Path.{_≡_, _∙_}
 use Prim.Native.Nat.{_-_}
-use lib.Seq.{length-take-le}
+use lib.ListN.{length-take}
 use Rattle.stream_spec.proofs.Feeding.{checked-sound, checked-within, checked-due, checked-kept, checked-fits, feed-refused, feed-nothing, feed-done}
 use borrow.Author.Needs.{needs}
 use native.Mathlib.Omega.{arith}
@@ -34,20 +34,18 @@ part-release-end : tie.Need-part-release-end
 part-release-end c =
     let e = c .before in
     let k = checked e in
-    checked-fits (start k .args .stream) _ _ (k .check .result) (k .check .ensures) (e .if1 .left)
+    omega (arith, checked-fits (start k .args .stream) _ _ (k .check .result) (k .check .ensures) (e .if1 .left))
 
 release-requires : tie.Need-release-requires
 release-requires c κs =
     let e = c .before .before in
     let k = checked e in
-    let t = start k .args .stream in
-    let n = k .check .result .due in
-    let z : n - 0 ≡ n = omega arith in (
+    let t = start k .args .stream in (
       checked-sound t _ _ (k .check .result) (k .check .ensures) (e .if1 .left),
       checked-within t _ _ (k .check .result) (k .check .ensures) (e .if1 .left),
       checked-kept t _ _ (k .check .result) (k .check .ensures) (e .if1 .left),
-      rw z (length-take-le n (start k .args .out .now) (checked-fits t _ _ (k .check .result) (k .check .ensures) (e .if1 .left)))
-          ∙ checked-due t _ _ (k .check .result) (k .check .ensures) (e .if1 .left),
+      simp length-take
+          (omega (arith, checked-fits t _ _ (k .check .result) (k .check .ensures) (e .if1 .left), checked-due t _ _ (k .check .result) (k .check .ensures) (e .if1 .left))),
     )
 
 returns-3 : tie.Need-returns-3

@@ -39,7 +39,7 @@ take-due-requires c κs =
 sub-transform : tie.Need-sub-transform
 sub-transform c =
     let s = start (c .before .before .before .before) in
-    held-below (s .args .stream) (s .pre .0)
+    omega (arith, held-below (s .args .stream) (s .pre .0))
 
 add-t15 : tie.Need-add-t15
 add-t15 c =

@@ -7,27 +7,24 @@ use native.Mathlib.Omega.{arith}
 use Rattle.subsample_map.proofs.entry_length.Statement.{statement}
 use Rattle.subsample_map.proofs.entry_length.Tie as tie
 
+-- both lengths fit their types
+clears : (c : tie.Start) → Fits w16 (getD (c .args .map .clear) (c .args .i) 0)
+clears c = search needs
+
+protects : (c : tie.Start) → Fits w32 (getD (c .args .map .protected) (c .args .i) 0)
+protects c = search needs
+
 cast-result : tie.Need-cast-result
-cast-result c =
-    let f : Fits w16 (getD (c .before .before .args .map .clear) (c .before .before .args .i) 0) = search needs in
-    omega (arith, f .fits)
+cast-result c = omega (arith, clears (c .before .before) .fits, protects (c .before .before) .fits)
 
 cast-result-2 : tie.Need-cast-result-2
-cast-result-2 c =
-    let f : Fits w32 (getD (c .before .before .args .map .protected) (c .before .before .args .i) 0) = search needs in
-    omega (arith, f .fits)
+cast-result-2 c = omega (arith, clears (c .before .before) .fits, protects (c .before .before) .fits)
 
 add-result : tie.Need-add-result
-add-result c =
-    let f : Fits w16 (getD (c .before .before .args .map .clear) (c .before .before .args .i) 0) = search needs in
-    let g : Fits w32 (getD (c .before .before .args .map .protected) (c .before .before .args .i) 0) = search needs in
-    omega (arith, f .fits, g .fits)
+add-result c = omega (arith, clears (c .before .before) .fits, protects (c .before .before) .fits)
 
 returns : tie.Need-returns
-returns c =
-    let f : Fits w16 (getD (c .before .before .args .map .clear) (c .before .before .args .i) 0) = search needs in
-    let g : Fits w32 (getD (c .before .before .args .map .protected) (c .before .before .args .i) 0) = search needs in
-    (refl, omega (arith, f .fits, g .fits))
+returns c = (refl, omega (arith, clears (c .before .before) .fits, protects (c .before .before) .fits))
 
 pub entry-length-spec : {M : Type 1} → statement M
 entry-length-spec =

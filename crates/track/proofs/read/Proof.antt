@@ -1,9 +1,11 @@
 -- the places: the code known, the frame sound, the head sound
+use mathlib.Core.Bool.{true}
 use mathlib.Core.Path.{_≡_, sym, ap, _∙_}
 use Prim.Native.Nat.{ℕ}
 use borrow.Author.Tests.{not-true, not-false}
 use Rattle.octets.specs.Answers.{answer}
-use Rattle.track_spec.specs.Track.{fieldsFrom, fields, readRows, readBox}
+use Rattle.boxes.specs.Box.{badFrame}
+use Rattle.track_spec.specs.Track.{tenc, fieldsFrom, fields, readRows, readBox}
 use borrow.Author.Needs.{needs}
 use native.Mathlib.Omega.{arith}
 use Rattle.track.proofs.read.Statement.{statement}
@@ -26,6 +28,10 @@ read-fields c =
     let a = known (framed c .before) .before .before .before .before .args in
     c .fields .ensures ∙ ap (λ (v : ℕ). fieldsFrom 12 (a .code .now) v (a .«track-box» .now)) (c .before .version .ensures)
 
+-- no box `tenc` of 32 bytes at least
+frame-bad : (c : tie.Then2) → badFrame 32 tenc (known (c .before) .before .before .before .before .args .«track-box» .now) ≡ true
+frame-bad c = sym (c .before .bad-frame .ensures) ∙ c .if2 .taken
+
 returns : tie.Need-returns
 unfolding readBox readRows answer
 returns c = c .refused .ensures ∙ rw (sym (c .before .before .known .ensures) ∙ not-true _ (c .before .if1 .taken))
@@ -33,10 +39,8 @@ returns c = c .refused .ensures ∙ rw (sym (c .before .before .known .ensures) 
 returns-2 : tie.Need-returns-2
 unfolding readBox readRows answer
 returns-2 c =
-    let b = c .before .before in
-    let a = known b in
-    c .refused2 .ensures
-    ∙ rw (sym (a .before .known .ensures) ∙ not-false _ (a .if1 .left), sym (b .bad-frame .ensures) ∙ c .before .if2 .taken)
+    let a = known (c .before .before) in
+    c .refused2 .ensures ∙ rw (sym (a .before .known .ensures) ∙ not-false _ (a .if1 .left), frame-bad (c .before))
 
 fields-requires : tie.Need-fields-requires
 fields-requires c κs =
