@@ -176,19 +176,20 @@ auxiliaries =
     ∷ gives (ofData cenc 8 (auxiliaryOf 8 (entry 0 0 ∷ [])) 1) 10
     ∷ gives (ofData cbc1 16 (auxiliaryOf 16 (entry 0 31 ∷ [])) 32) 11 ∷ []
 
--- Of two of these together: 4 before 7 for a reader of auxiliary data; 4 before 5 and 6 before 7 for a sample.
-abbrev pub badFields : List ℕ
-badFields = boxWith 32 tenc (0 ∷ 0 ∷ 0 ∷ 0 ∷ 0 ∷ 0 ∷ 1 ∷ 7 ∷ []) []
+-- Two of these groups at once: 4 before 7 for a reader of auxiliary data; 4 before 5 and 6 before 7 for a sample.
+abbrev pub badBox : List ℕ
+badBox = boxWith 32 tenc (0 ∷ 0 ∷ 0 ∷ 0 ∷ 0 ∷ 0 ∷ 1 ∷ 7 ∷ []) []
 
 unfoldable pub boxThenData : List (Asked Given)
-boxThenData = gives (given cenc badFields eight keysOf 16777217) 4 ∷ []
+boxThenData = gives (given cenc badBox eight keysOf 16777217) 4 ∷ []
 
 unfoldable pub boxThenKeys : List (Asked Given)
-boxThenKeys = gives (given cenc badFields eight (take 31 keysOf) 5) 4 ∷ gives (given cenc (boxOf 8) eight (span 2 32) 16777217) 6 ∷ []
+boxThenKeys = gives (given cenc badBox eight (take 31 keysOf) 5) 4 ∷ gives (given cenc (boxOf 8) eight (span 2 32) 16777217) 6 ∷ []
 
 -- ---- 9 to 12, of a map.
 
-pub record Checked : Type 0 where
+-- A map under a scheme code, for a sample of some length.
+pub record GivenMap : Type 0 where
   pub code : List ℕ
   pub map : SubsampleMap
   pub length : ℕ
@@ -196,10 +197,10 @@ pub record Checked : Type 0 where
 abbrev pub mapWith : List ℕ → List ℕ → ℕ → SubsampleMap
 mapWith clear protected count = record { clear = filled limit clear; protected = filled limit protected; count = count }
 
-abbrev pub ofMap : List ℕ → SubsampleMap → ℕ → Checked
+abbrev pub ofMap : List ℕ → SubsampleMap → ℕ → GivenMap
 ofMap code m n = record { code = code; map = m; length = n }
 
-unfoldable pub maps : List (Asked Checked)
+unfoldable pub maps : List (Asked GivenMap)
 maps =
     gives (ofMap cenc emptyMap 5) 0 ∷ gives (ofMap cenc (mapWith (2 ∷ []) (3 ∷ []) 1) 5) 0
     ∷ gives (ofMap cenc (mapWith [] (replicate 64 1) 64) 64) 0
@@ -222,6 +223,7 @@ streamAt p n m x k =
       progress = progressOf (record { position = x; block = zeros; held = replicate k 0 });
     }
 
+-- Records that each break one of the rules.
 unfoldable pub unsound : List Stream
 unsound =
     -- "the parameters meet 1, 3 and 4"
