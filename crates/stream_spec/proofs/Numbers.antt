@@ -5,7 +5,7 @@ use Rattle.octets.specs.Bytes.{same, number, digits, filled}
 use Rattle.octets.specs.Cases.{allMade, allSaid}
 use Rattle.boxes.specs.Box.{badFrame}
 use Rattle.track_spec.specs.Track.{known, allowedProtected, allowedFields, allowed, fieldsFrom, fields, badHead, badFields, readRows, readBox, writeRows, writeBox}
-use Rattle.subsample_spec.specs.Auxiliary.{some, sum, mapRows, badSize, entryCount, mapRead, auxiliaryRows, handedOut, readUnder, readAuxiliary}
+use Rattle.subsample_spec.specs.Auxiliary.{some, sum, mapRows, badSize, entryCount, mapRead, ivRead, auxiliaryRows, handedOut, readUnder, readAuxiliary}
 use Rattle.scheme.specs.Layout.{schemeOf, patternOf, inWholeBlock, inCryptRun, isCiphered, entries}
 use Rattle.scheme.specs.Held.{place, inPlace, inBlock, heldAt}
 use Rattle.scheme.specs.Part.{protectedEntries, entriesOf, heldUnder}
@@ -17,7 +17,7 @@ pub numbers-hold : Numbers
 unfolding allMade allSaid boxReader boxWriter parameterCheck auxiliaryReader underParameters mapCheck keyFinder wholeSample
     starting feeding ending boxes parameters keyRecords auxiliaries boxThenData boxThenKeys maps unsound entriesBytes answer same
     number digits filled badFrame known allowedProtected allowedFields allowed fieldsFrom fields badHead badFields readRows
-    readBox writeRows writeBox some sum mapRows badSize entryCount mapRead auxiliaryRows handedOut readUnder readAuxiliary
+    readBox writeRows writeBox some sum mapRows badSize entryCount mapRead ivRead auxiliaryRows handedOut readUnder readAuxiliary
     schemeOf patternOf inWholeBlock inCryptRun isCiphered entries place inPlace inBlock heldAt protectedEntries entriesOf
     heldUnder sample.keyRows sample.findKey sample.parametersOf sample.sampleRows sample.handedOut sample.readInputs soundDeclared
     sound start due feedRows feed endRows end

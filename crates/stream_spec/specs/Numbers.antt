@@ -272,7 +272,12 @@ auxiliaryReader =
 
 -- Under given parameters 7 to 12, of a map by itself 9 to 12, of a key record by itself 5 and 6.
 unfoldable pub underParameters : List Case
-underParameters = asked (λ q. readUnder (parametersOf (q .inputs)) (q .inputs .auxiliary) (q .length) .answer) auxiliaries ∷ []
+underParameters =
+    asked (λ q. readUnder (parametersOf (q .inputs)) (q .inputs .auxiliary) (q .length) .answer) auxiliaries
+    -- "For an unprotected track the auxiliary data is empty", "the IV .. zero if unprotected": whatever its IV size, and for a flag of 2
+    ∷ asked (λ flag. readUnder (parametersWith cenc 0 0 0 flag 8 zeros) eight 5 .answer) (gives 0 8 ∷ gives 2 8 ∷ gives 1 0 ∷ [])
+    ∷ asked (λ flag. readUnder (parametersWith cenc 0 0 0 flag 8 zeros) [] 5 .answer) (gives 0 0 ∷ gives 2 0 ∷ gives 1 8 ∷ [])
+    ∷ is (readUnder (parametersWith cenc 0 0 0 0 8 zeros) [] 5 .iv .0) zeros ∷ []
 
 unfoldable pub mapCheck : List Case
 mapCheck = asked (λ c. answer (mapRows (c .code) (c .map) (c .length))) maps ∷ []

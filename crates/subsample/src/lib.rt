@@ -24,10 +24,10 @@ fn wide(x: u8) -> usize
 fn iv_length(p: Parameters) -> usize
     ensures { λ r. ⌜ r ≡ spec.ivLength p ⌝ }
 {
-    if p.protected != 1 {
-        return 0;
+    if p.protected == 1 {
+        return wide(p.iv_size);
     }
-    wide(p.iv_size)
+    0
 }
 
 // Whether something follows the IV of a protected track.
