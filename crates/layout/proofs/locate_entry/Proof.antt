@@ -2,7 +2,7 @@ use mathlib.Core.List.{_∷_}
 use mathlib.Core.Path.{_≡_}
 use Prim.Native.Nat.{_+_, _-_, _≤_}
 use mir.Val.{Fits}
-use mir.Syntax.{w32}
+use mir.Syntax.{w16, w32}
 use lib.ListN.{length, getD, drop}
 use Rattle.subsample_spec.specs.Auxiliary.{limit}
 use Rattle.scheme.specs.Layout.{entry, entries}
@@ -29,6 +29,10 @@ here c =
     let n : length (a .t1) ≡ limit = search needs in
     let m : length (a .t2) ≡ limit = search needs in
     entry-next (a .t1) (a .t2) (a .count) (c .before .loop .k) (c .loop-test .taken) (omega arith) (omega arith)
+
+-- both lengths of an entry fit their types
+clears : (c : tie.In-loop Inv-loop μ-loop) → Fits w16 (getD (c .before .before .args .t1) (c .before .loop .k) 0)
+clears c = search needs
 
 protects : (c : tie.In-loop Inv-loop μ-loop) → Fits w32 (getD (c .before .before .args .t2) (c .before .loop .k) 0)
 protects c = search needs
@@ -64,7 +68,9 @@ returns-2 : tie.Need-returns-2 Inv-loop μ-loop
 returns-2 c = locate-in (c .before .before .before .loop .inv .0) _ _ (here (c .before .before)) (c .before .if1 .left) (c .if2 .taken)
 
 add-before : tie.Need-add-before Inv-loop μ-loop
-add-before c = omega (arith, c .before .before .before .loop .inv .0 .low, protects (c .before .before) .fits)
+add-before c =
+    let i = c .before .before in
+    omega (arith, i .before .loop .inv .0 .low, clears i .fits, protects i .fits)
 
 add-k : tie.Need-add-k Inv-loop μ-loop
 add-k c = omega arith
