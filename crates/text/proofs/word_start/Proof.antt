@@ -1,5 +1,5 @@
 use mathlib.Core.Path.{_≡_, refl, sym, ap, _∙_}
-use Prim.Native.Nat.{_-_, _≤_}
+use Prim.Native.Nat.{_+_, _-_, _≤_}
 use lib.ListN.{drop}
 use Rattle.text.specs.Text as spec
 use Rattle.text.proofs.Words.{behind-word, from-word-next}
@@ -23,8 +23,9 @@ loop-again c =
     let a = c .before .before .before .before .before .args in
     let l = c .before .before .before .loop in (
       omega arith,
-      rw (ap (λ w. w .end) (c .before .word-at .ensures .0), behind-word (a .parting) (a .line .now) (l .start), l .inv .1)
-          (sym (from-word-next (a .parting) (l .i) (a .line .now))),
+      ap (λ w. drop (w .end + 1) (a .line .now)) (c .before .word-at .ensures .0)
+          ∙ behind-word (a .parting) (a .line .now) (l .start)
+          ∙ rw (l .inv .1) (sym (from-word-next (a .parting) (l .i) (a .line .now))),
     )
 
 returns : tie.Need-returns Inv-loop μ-loop
