@@ -15,7 +15,7 @@ Inv-loop keys how n from part₀ scheme pattern block₀ used₀ at₀ part bloc
 abbrev μ-loop : tie.MeasureT-loop
 μ-loop keys how n from part₀ scheme pattern block₀ used₀ at₀ part block used at = length part₀ - at
 
--- the places: a turn, the bytes that it takes, and these ciphered
+-- the places: a turn, the bytes that it takes, and these ciphered or skipped
 abbrev start : tie.At-loop Inv-loop μ-loop → tie.Start Inv-loop μ-loop
 start c = c .before .before .before .before
 
@@ -27,6 +27,9 @@ run c = c .before .before
 
 abbrev taken : tie.After-cipher-run Inv-loop μ-loop → tie.Then1 Inv-loop μ-loop
 taken c = c .before .before .before
+
+abbrev skipped : tie.Else1 Inv-loop μ-loop → tie.After-least Inv-loop μ-loop
+skipped c = c .before
 
 -- in a turn some of the part is left
 left : (c : tie.In-loop Inv-loop μ-loop) → c .before .loop .at < length (start (c .before) .args .part .now)
@@ -96,12 +99,12 @@ loop-again c =
 
 loop-less-2 : tie.Need-loop-less-2 Inv-loop μ-loop
 loop-less-2 c =
-    let t = c .before in
+    let t = skipped c in
     omega (arith, t .least .ensures, left (run t .before), fill-length (turn t .loop .inv .filled), run t .run-at .ensures .past)
 
 loop-again-2 : tie.Need-loop-again-2 Inv-loop μ-loop
 loop-again-2 c =
-    let t = c .before in
+    let t = skipped c in
     range-kept _ _ _ _ _ _ _ _ _ _ _ (start (turn t) .pre) (turn t .loop .inv) (left (run t .before)) (run t .run-at .ensures) (t .least .result) (t .least .ensures) (c .if1 .left)
 
 same-length : tie.Need-same-length Inv-loop μ-loop
