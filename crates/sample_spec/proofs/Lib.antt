@@ -3,3 +3,4 @@ pub mod Accepted
 pub mod Counters
 pub mod RoundTrip
 pub mod Depends
+pub mod Examples

@@ -1,27 +1,25 @@
 -- Document 01, "Numbers answered, in the order tried": what a caller hands in for a sample, the key record (5 and 6), and a whole
 -- sample locked or opened (1 to 12).
-use mathlib.Core.Bool.{true, cond, not, _&&_}
+use mathlib.Core.Bool.{cond, not, _&&_}
 use mathlib.Core.List.{List, [], _∷_, _++_}
-use mathlib.Core.Path.{_≡_, refl, ap, ap₂, _∙_}
+use mathlib.Core.Path.{refl}
 use Prim.Native.Nat.{ℕ, _<_}
-use native.Mathlib.Omega.{arith}
 use lib.Dec.{eqb}
-use lib.ListN.{length, getD, take, drop, replicate}
+use lib.ListN.{length, getD, take, drop}
 use Rattle.octets.specs.Answers.{Row, row, answer}
 use Rattle.octets.specs.Bytes.{listOf, same, number, digits, filled}
 use Rattle.octets.specs.Cases.{Case, is, allMade, allSaid, Hold, span}
 use Rattle.octets.specs.Xor.{_⊕_}
-use Rattle.aes.specs.Block.{roundKeys, encipher, decipher, encipher-length, decipher-length}
+use Rattle.aes.specs.Block.{roundKeys, encipher, decipher}
 use Rattle.modes_spec.specs.declared.Direction.{Direction}
 use Rattle.modes_spec.specs.declared.Direction.the-variants.{Lock, Open}
-use Rattle.modes_spec.specs.Modes.{xors, counterAt, streamByte, ctr, blockOut, cbcBlocks, cbc}
-use Rattle.modes_spec.proofs.Strings.{length-xors}
+use Rattle.modes_spec.specs.Modes.{counterAt, streamByte, ctr}
 use Rattle.boxes.specs.Box.{badFrame}
 use Rattle.track_spec.specs.declared.Parameters.{Parameters}
-use Rattle.track_spec.specs.Track.{cenc, cbc1, tenc, zeros, known, allowedProtected, allowedFields, allowed, fieldsFrom, fields, badHead, badFields, readRows, unprotected}
+use Rattle.track_spec.specs.Track.{cenc, tenc, zeros, known, allowedProtected, allowedFields, allowed, fieldsFrom, fields, badHead, badFields, readRows, unprotected}
 use Rattle.subsample_spec.specs.declared.SubsampleMap.{SubsampleMap}
 use Rattle.subsample_spec.specs.Auxiliary.{emptyMap, some, sum, mapRows, badSize, entryCount, mapRead, ivRead, auxiliaryRows}
-use Rattle.scheme.specs.Layout.{schemeOf, patternOf, inWholeBlock, isCiphered, tabulate, rangeMarks, marks, mask, chosen, replaced}
+use Rattle.scheme.specs.Layout.{schemeOf, patternOf, isCiphered, tabulate, rangeMarks, marks, mask, chosen, replaced}
 use Rattle.scheme.specs.WholeSample.{over, whole}
 use Rattle.scheme.specs.Part.{protectedEntries, entriesOf, ciphered}
 use Rattle.sample_spec.specs.declared.KeyFound.{KeyFound}
@@ -116,12 +114,12 @@ sampleAfter d i xs = cond (eqb (answer (sampleRows i (length xs))) 0) (cipheredB
 abbrev kid : List ℕ
 kid = span 1 16
 
-abbrev key : List ℕ
-key = span 101 16
+abbrev pub exampleKey : List ℕ
+exampleKey = span 101 16
 
 -- An IV, and the counter block after it.
-abbrev iv : List ℕ
-iv = span 33 16
+abbrev pub exampleIv : List ℕ
+exampleIv = span 33 16
 
 abbrev next : List ℕ
 next = span 33 15 ++ (49 ∷ [])
@@ -130,25 +128,25 @@ next = span 33 15 ++ (49 ∷ [])
 abbrev box : List ℕ
 box = 0 ∷ 0 ∷ 0 ∷ 32 ∷ tenc ++ (0 ∷ 0 ∷ 0 ∷ 0 ∷ 0 ∷ 0 ∷ 1 ∷ 16 ∷ kid)
 
-abbrev handed : List ℕ → Inputs
-handed code = inputs code box iv (kid ++ key)
+abbrev pub exampleInputs : List ℕ → Inputs
+exampleInputs code = inputs code box exampleIv (kid ++ exampleKey)
 
 -- Bytes and key stream bytes added, one by one.
-abbrev added : List ℕ → List ℕ → List ℕ
+abbrev pub added : List ℕ → List ℕ → List ℕ
 added xs ks = listOf (length xs) (λ i. getD xs i 0 ⊕ getD ks i 0)
 
 pub examples : List Case
 examples =
     -- cenc, no entries: one block of the key stream and 4 bytes of the next.
-    is (answer (sampleRows (handed cenc) 20) ∷ []) (0 ∷ [])
-    ∷ is (sampleAfter Lock (handed cenc) (span 1 20))
-    (added (span 1 16) (encipher (roundKeys key) iv) ++ added (span 17 4) (encipher (roundKeys key) next))
-    ∷ is (sampleAfter Open (handed cenc) (span 1 20))
-    (added (span 1 16) (encipher (roundKeys key) iv) ++ added (span 17 4) (encipher (roundKeys key) next))
+    is (answer (sampleRows (exampleInputs cenc) 20) ∷ []) (0 ∷ [])
+    ∷ is (sampleAfter Lock (exampleInputs cenc) (span 1 20))
+    (added (span 1 16) (encipher (roundKeys exampleKey) exampleIv) ++ added (span 17 4) (encipher (roundKeys exampleKey) next))
+    ∷ is (sampleAfter Open (exampleInputs cenc) (span 1 20))
+    (added (span 1 16) (encipher (roundKeys exampleKey) exampleIv) ++ added (span 17 4) (encipher (roundKeys exampleKey) next))
     -- The box before the key record, the key record before the auxiliary data; a refusal changes nothing.
     ∷ is (answer (sampleRows (inputs cenc (1 ∷ drop 1 box) [] []) 20) ∷ []) (2 ∷ [])
     ∷ is (answer (sampleRows (inputs cenc box [] []) 20) ∷ []) (5 ∷ [])
-    ∷ is (sampleAfter Lock (inputs cenc box iv kid) (span 1 20)) (span 1 20) ∷ []
+    ∷ is (sampleAfter Lock (inputs cenc box exampleIv kid) (span 1 20)) (span 1 20) ∷ []
 
 pub examples-hold : Hold examples
 unfolding examples allMade allSaid sampleAfter sampleRows cipheredBy parametersOf keyOf mapOf ivOf keyRows keyIn readRows known same
@@ -156,24 +154,3 @@ unfolding examples allMade allSaid sampleAfter sampleRows cipheredBy parametersO
     entryCount some sum ivRead answer ciphered entriesOf protectedEntries schemeOf patternOf whole over mask marks rangeMarks tabulate
     isCiphered chosen replaced ctr streamByte counterAt digits
 examples-hold = refl
-
--- where all is marked, all is replaced
-all-replaced : (ys xs : List ℕ) → length ys ≡ length xs → replaced (replicate (length xs) true) (ys ++ []) xs ≡ ys
-unfolding replaced
-all-replaced [] [] l = refl
-all-replaced [] (x ∷ xs) l = absurd (omega arith)
-all-replaced (y ∷ ys) [] l = absurd (omega arith)
-all-replaced (y ∷ ys) (x ∷ xs) l = ap (λ (zs : List ℕ). y ∷ zs) (all-replaced ys xs (omega arith))
-
--- cbc1, one block: locked, it is the block and the IV added, then enciphered; opened, the block deciphered, and the IV added.
-pub block-examples-hold : sampleAfter Lock (handed cbc1) (span 1 16) ∷ sampleAfter Open (handed cbc1) (span 1 16) ∷ []
-    ≡ encipher (roundKeys key) (added (span 1 16) iv) ∷ xors (decipher (roundKeys key) (span 1 16)) iv ∷ []
-unfolding sampleAfter sampleRows cipheredBy parametersOf keyOf mapOf ivOf keyRows keyIn readRows known same
-    badFrame number badHead badFields allowed allowedFields allowedProtected fields fieldsFrom filled auxiliaryRows badSize mapRows mapRead
-    entryCount some sum ivRead answer ciphered entriesOf protectedEntries schemeOf patternOf whole over mask marks rangeMarks tabulate
-    isCiphered inWholeBlock chosen cbc cbcBlocks blockOut xors
-block-examples-hold =
-    ap₂ (λ (xs ys : List ℕ). xs ∷ ys ∷ [])
-    (all-replaced (encipher (roundKeys key) (added (span 1 16) iv)) (span 1 16) (encipher-length (roundKeys key) (added (span 1 16) iv)))
-    (all-replaced (xors (decipher (roundKeys key) (span 1 16)) iv) (span 1 16)
-    (length-xors (decipher (roundKeys key) (span 1 16)) iv ∙ decipher-length (roundKeys key) (span 1 16)))
