@@ -29,7 +29,7 @@ pub fn every_byte(scheme: Scheme) -> bool
     }
 }
 
-// Whether the byte at an offset of a range of n bytes lies in a whole block that the pattern ciphers.
+// Whether the byte at an offset of a range of n bytes lies in a whole block that the pattern ciphers; 0:0 ciphers every one.
 fn in_pattern(pattern: Pattern, n: usize, o: usize) -> bool
     ensures { λ r. ⌜ r ≡ inWholeBlock n o && inCryptRun pattern o ⌝ }
 {
@@ -37,10 +37,11 @@ fn in_pattern(pattern: Pattern, n: usize, o: usize) -> bool
         return false;
     }
     let crypt = pattern.crypt as usize;
-    if crypt == 0 {
-        return false;
+    let period = crypt + pattern.skip as usize;
+    if period == 0 {
+        return true;
     }
-    o / ModeBlock::SIZE % (crypt + pattern.skip as usize) < crypt
+    o / ModeBlock::SIZE % period < crypt
 }
 
 // Whether the byte at an offset of a range of n bytes is ciphered.

@@ -8,7 +8,7 @@ ghost use Prim.Native.Nat.{_+_, _%_, _≤_};
 ghost use lib.Dec.{leb};
 ghost use lib.ListN.{length, take};
 ghost use Rattle.aes.specs.Block.{encipher, decipher};
-ghost use Rattle.scheme.specs.Layout.{schemeOf, patternOf, isCiphered, entry, entries, mask, count as counted};
+ghost use Rattle.scheme.specs.Layout.{schemeOf, patternOf, entry, entries, mask, count as counted};
 ghost use Rattle.scheme.specs.Machine.{free, feedSample};
 ghost use Rattle.scheme.specs.Part.{protectedEntries, fits as fitsIn, transformed};
 ghost use Rattle.scheme.specs.Walk.{left, SampleAsks};
@@ -33,19 +33,6 @@ fn within(end: usize, from: usize, size: usize) -> bool
     size <= end - from
 }
 
-// Whether a range of a track begins with a ciphered block.
-fn begins_ciphered(parameters: Parameters) -> bool
-    ensures { λ r. ⌜ r ≡ isCiphered (schemeOf (parameters .code)) (patternOf parameters) 16 0 ⌝ }
-{
-    let code = parameters.code;
-    layout::ciphered_at(
-        Scheme::of(code),
-        Pattern::of(parameters),
-        ModeBlock::SIZE,
-        0,
-    )
-}
-
 // Whether `size` bytes from a position of a protected sample on can be ciphered where they lie.
 fn fits(
     parameters: Parameters,
@@ -58,9 +45,6 @@ fn fits(
     ensures { λ r. ⌜ r ≡ fitsIn parameters map «sample_length» from size ⌝ }
 {
     if SubsampleMap::LONGEST_SAMPLE < sample_length {
-        return false;
-    }
-    if !begins_ciphered(parameters) {
         return false;
     }
     let end = layout::total_length(map, sample_length);

@@ -1,10 +1,9 @@
 // The runs of a protected range: from an offset on, up to where the bytes are all ciphered, or none of them is.
-ghost use mathlib.Core.Bool.{true};
 ghost use mathlib.Core.Path.{_≡_};
-ghost use Prim.Native.Nat.{ℕ, _-_, _^_, _≤_, _<_};
+ghost use Prim.Native.Nat.{ℕ, _-_, _^_, _<_};
 ghost use Rattle.scheme.specs.declared.Pattern.{Pattern};
 ghost use Rattle.scheme.specs.declared.Scheme.the-variants.{Cbc1, Cens, Cbcs};
-ghost use Rattle.scheme.specs.Layout.{isCiphered, restarts as restartsAt};
+ghost use Rattle.scheme.specs.Layout.{restarts as restartsAt};
 ghost use Rattle.scheme.specs.Walk.{RunAt};
 use modes::ModeBlock;
 use scheme::Pattern;
@@ -53,9 +52,9 @@ fn whole_run(n: usize, o: usize) -> Run
     }
 }
 
-// The run of crypt blocks or of skip blocks, or what is left after the whole blocks.
+// The run of crypt blocks or of skip blocks, or what is left after the whole blocks; under 0:0 every whole block is a crypt block.
 fn pattern_run(pattern: Pattern, n: usize, o: usize) -> Run
-    requires { ⌜ (o < n) × (1 ≤ pattern .crypt) × (n < 2 ^ 32) ⌝ }
+    requires { ⌜ (o < n) × (n < 2 ^ 32) ⌝ }
     ensures { λ r. ⌜ (RunAt Cens pattern n o (r .ciphered) (r .end)) × (RunAt Cbcs pattern n o (r .ciphered) (r .end)) ⌝ }
 {
     let whole = n / ModeBlock::SIZE * ModeBlock::SIZE;
@@ -66,8 +65,14 @@ fn pattern_run(pattern: Pattern, n: usize, o: usize) -> Run
         };
     }
     let crypt = pattern.crypt as usize;
-    let block = o / ModeBlock::SIZE;
     let period = crypt + pattern.skip as usize;
+    if period == 0 {
+        return Run {
+            ciphered: true,
+            end: whole,
+        };
+    }
+    let block = o / ModeBlock::SIZE;
     let nth = block % period;
     let first = block - nth;
     if nth < crypt {
@@ -85,7 +90,7 @@ fn pattern_run(pattern: Pattern, n: usize, o: usize) -> Run
 
 // The run at an offset of a range of n bytes.
 pub(crate) fn run_at(scheme: Scheme, pattern: Pattern, n: usize, o: usize) -> Run
-    requires { ⌜ (isCiphered scheme pattern 16 0 ≡ true) × (o < n) × (n < 2 ^ 32) ⌝ }
+    requires { ⌜ (o < n) × (n < 2 ^ 32) ⌝ }
     ensures { λ r. ⌜ RunAt scheme pattern n o (r .ciphered) (r .end) ⌝ }
 {
     match scheme {

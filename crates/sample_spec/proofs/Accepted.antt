@@ -20,9 +20,9 @@ use Rattle.track_spec.proofs.Fields.{constant-length, constant-bytes}
 use Rattle.track_spec.proofs.RoundTrip.{accepted}
 use Rattle.subsample_spec.specs.declared.SubsampleMap.{SubsampleMap}
 use Rattle.subsample_spec.specs.Auxiliary.{limit, longest, mapRows, mapRead, ivLength, ivRead, auxiliaryRows}
-use Rattle.scheme.specs.Layout.{schemeOf, patternOf, isCiphered, total}
+use Rattle.scheme.specs.Layout.{total}
 use Rattle.scheme.specs.Part.{entriesOf, ciphered, fits, transformed, Begins}
-use Rattle.scheme.proofs.Allowed.{cbcs-constant, allowed-protected, allowed-first, protected-total, accepted-total}
+use Rattle.scheme.proofs.Allowed.{cbcs-constant, protected-total, accepted-total}
 use Rattle.scheme.proofs.Under.{clear-ciphered, fed-whole}
 use Rattle.scheme.proofs.Fitting.{fits-whole, transformed-clear}
 use Rattle.sample_spec.specs.declared.InputsRead.{InputsRead}
@@ -101,21 +101,14 @@ module _ (i : Inputs) (n : ℕ) (h : answer (sampleRows i n) ≡ 0) where
   pub accepted-length : total (entriesOf p m n) ≡ n
   accepted-length = accepted-total p m n clear-places protected-places map-accepted
 
-  first : p .protected ≡ 1 → isCiphered (schemeOf (p .code)) (patternOf p) 16 0 ≡ true
-  first one = allowed-first p known-code permitted one
-
   module _ (b : OfBytes i) where
     -- the IV is one to begin with
     pub begins : Begins p (ivOf i)
-    unfolding ivOf ivRead patternOf
+    unfolding ivOf ivRead
     begins =
         record {
           bytes = iv-bytes i b;
-          first = first;
-          constant = λ one s.
-              let z : p .«iv_size» ≡ 0 =
-              cbcs-constant (patternOf p) (p .«iv_size») (p .code) known-code (allowed-protected p permitted one) s in
-              rw (one, z);
+          constant = λ one s. rw (one, cbcs-constant p known-code permitted one s);
         }
 
     -- the transform of the whole sample
@@ -129,7 +122,7 @@ module _ (i : Inputs) (n : ℕ) (h : answer (sampleRows i n) ≡ 0) where
         go true e =
             let one : p .protected ≡ 1 = eqb-true (p .protected) 1 e in
             let f : fits p m n 0 n ≡ true =
-            fits-whole p m n one length-allowed (first one) (protected-total p m n clear-places protected-places map-accepted) in
+            fits-whole p m n one length-allowed (protected-total p m n clear-places protected-places map-accepted) in
             rw (l, f) (rw l at (fed-whole E D sE sD d p m (ivOf i) begins xs (rw l (sym accepted-length))))
         go false e =
             transformed-clear E D d p m n 0 (ivOf i) xs e .0 ∙ sym (clear-ciphered E D d p m n e (ivOf i) xs l)

@@ -1,7 +1,8 @@
 -- The machine over a whole sample (specs/Machine) releases what the whole-sample definition (specs/WholeSample) makes of it.
 use mathlib.Core.Path.{_≡_, refl, sym, ap, _∙_}
-use mathlib.Core.Bool.{Bool, true, false, cond, _&&_}
+use mathlib.Core.Bool.{Bool, true, false, cond, _&&_, and-false}
 use mathlib.Core.List.{List, [], _∷_, _++_, append-assoc, append-nil}
+use mathlib.Core.Logic.{⊎-elim}
 use Prim.Native.Nat.{ℕ, zero, suc, _+_, _-_, _*_, _/_, _%_, _≤_, _<_}
 use native.Mathlib.Nat.{zero-add, add-zero, suc-inj, suc-add}
 use native.Mathlib.Numerals.{add-one}
@@ -14,12 +15,13 @@ use borrow.Author.Tests.{eqb-true, eqb-false, eq-eqb, ne-eqb, lt-ltb, le-ltb}
 use Rattle.scheme.specs.declared.Pattern.{Pattern}
 use Rattle.scheme.specs.declared.Scheme.{Scheme}
 use Rattle.scheme.specs.declared.Scheme.the-variants.{Cenc, Cbc1, Cens, Cbcs}
-use Rattle.scheme.specs.Layout.{period, Entry, total, inWholeBlock, inCryptRun, tabulate, isCiphered, rangeMarks, marks, mask, restarts, restartMask, chosen, replaced, count}
+use Rattle.scheme.specs.Layout.{Entry, total, inWholeBlock, inCryptRun, tabulate, isCiphered, rangeMarks, marks, mask, restarts, restartMask, chosen, replaced, count}
 use Rattle.modes_spec.specs.declared.Direction.{Direction}
 use Rattle.modes_spec.specs.Modes.{Cipher, counterAt, streamByte, ctr, blockOut, blockChain, cbcBlocks, cbc, Sized}
 use Rattle.scheme.specs.WholeSample.{over, overEach, whole}
 use Rattle.octets.specs.Bytes.{Bytes}
 use Rattle.modes_spec.proofs.Counter.{steps, no-step}
+use Rattle.scheme.proofs.Patterns.{cryptBlock, first-or-none}
 use Rattle.scheme.proofs.Pieces.{cond-law, count-marked, count-unmarked, length-blockOut, feed-append, feed-position, heldAfter, Added, feed-adds}
 use Rattle.scheme.specs.declared.Mode.{Mode}
 use Rattle.scheme.specs.declared.Mode.the-variants.{Counter, Chain}
@@ -239,7 +241,13 @@ module _ (G H : ℕ → Bool) where
       rw (s, tabulate-block G k (q * 16 + r), tabulate-block H k (q * 16 + r), h k (omega arith))
       (either (G k) (blockwise-later q (suc k) r (q * 16 + r) refl l (rw n g) (λ j u. h j (omega arith))))
 
-  -- a whole range of n bytes: the first block is ciphered, and the chain starts anew in it
+  -- m bytes in which no block is ciphered
+  blockwise-none : {a : Bool} → ((j : ℕ) → G j ≡ false) → (o m : ℕ) → Blockwise a (tabulate (byBlock G) o m) (tabulate (byBlock H) o m)
+  unfolding tabulate
+  blockwise-none g o zero = done
+  blockwise-none g o (suc m) = rw (g (o / 16)) (clear (blockwise-none g (suc o) m))
+
+  -- a whole range of n bytes whose first block is ciphered, and in which the chain starts anew there
   blockwise-range : (n : ℕ) → G (n / 16) ≡ false → (0 < n / 16 → G 0 ≡ true) → H 0 ≡ true → ((j : ℕ) → 1 ≤ j → H j ≡ false)
       → Blockwise true (tabulate (byBlock G) 0 n) (tabulate (byBlock H) 0 n)
   blockwise-range n g first h later = go (n / 16) refl
@@ -260,12 +268,15 @@ module _ (pattern : Pattern) where
       blockwise-later (λ (k : ℕ). ltb k (n / 16)) (λ (k : ℕ). false) (n / 16) 0 (n % 16) n (omega arith) (omega arith)
       (le-ltb (0 + n / 16) (n / 16) (omega arith)) (λ j u. refl)
 
-  blockwise-cbcs : isCiphered Cbcs pattern 16 0 ≡ true → (n : ℕ)
-      → Blockwise true (rangeMarks (isCiphered Cbcs pattern) n) (rangeMarks (restarts Cbcs) n)
+  blockwise-cbcs : (n : ℕ) → Blockwise true (rangeMarks (isCiphered Cbcs pattern) n) (rangeMarks (restarts Cbcs) n)
   unfolding rangeMarks isCiphered inWholeBlock inCryptRun restarts
-  blockwise-cbcs c n =
-      blockwise-range (λ (k : ℕ). ltb k (n / 16) && ltb (k % (period pattern)) (pattern .crypt)) (λ (k : ℕ). eqb k 0) n
-      (rw (le-ltb (n / 16) (n / 16) (omega arith))) (λ u. rw (lt-ltb 0 (n / 16) u, c)) refl (λ j u. ne-eqb j 0 (omega arith))
+  blockwise-cbcs n =
+      ⊎-elim
+      (λ c.
+      blockwise-range (λ (k : ℕ). ltb k (n / 16) && cryptBlock pattern k) (λ (k : ℕ). eqb k 0) n
+      (rw (le-ltb (n / 16) (n / 16) (omega arith))) (λ u. rw (lt-ltb 0 (n / 16) u) c) refl (λ j u. ne-eqb j 0 (omega arith)))
+      (λ c. blockwise-none (λ (k : ℕ). ltb k (n / 16) && cryptBlock pattern k) (λ (k : ℕ). eqb k 0) (λ j. rw (c j) (and-false (ltb j (n / 16)))) 0 n)
+      (first-or-none pattern)
 
   blockwise-sample : (es : List Entry) → Blockwise false (mask Cbc1 pattern es) (restartMask Cbc1 es)
   unfolding mask restartMask marks
@@ -310,7 +321,7 @@ module _ (E D : Cipher) (sE : Sized E) (sD : Sized D) (d : Direction) (iv : List
       (sym (append-nil _)) (sym (append-nil _)) (λ c′. refl))
 
   -- cbcs: range by range
-  module _ (M F : List Bool) (some : isCiphered Cbcs pattern 16 0 ≡ true) where
+  module _ (M F : List Bool) where
     entry-feed : (a b : ℕ) (cs bs zs R : List ℕ) (p : ℕ) (c : List ℕ) (ns gs : List Bool) → length cs ≡ a → length bs ≡ b
         → drop p M ≡ replicate a false ++ (rangeMarks (isCiphered Cbcs pattern) b ++ ns)
         → drop p F ≡ replicate a false ++ (rangeMarks (restarts Cbcs) b ++ gs)
@@ -324,7 +335,7 @@ module _ (E D : Cipher) (sE : Sized E) (sD : Sized D) (d : Direction) (iv : List
         (rangeMarks (isCiphered Cbcs pattern) b ++ ns) (rangeMarks (restarts Cbcs) b ++ gs)
         (la ∙ sym (length-replicate a false)) (simp length-replicate) eM eF
         (λ c′.
-        blockwise-feed E D sE sD d iv M F (blockwise-cbcs pattern some b) bs zs R (p + a) (p + (a + b)) c′ ns gs
+        blockwise-feed E D sE sD d iv M F (blockwise-cbcs pattern b) bs zs R (p + a) (p + (a + b)) c′ ns gs
         (lb ∙ sym (length-range (isCiphered Cbcs pattern) b))
         (simp length-range (omega arith)) (drop-part M p a (replicate a false) _ (length-replicate a false) eM)
         (drop-part F p a (replicate a false) _ (length-replicate a false) eF) k))
@@ -368,28 +379,27 @@ module _ (E D : Cipher) (sE : Sized E) (sD : Sized D) (d : Direction) (iv : List
       rw (no-step iv (bytes .size) (bytes .small)) at (counter-feed E D d iv M F
       (omega (arith, bytes .size)) xs M 0 [] 0 refl l refl)
 
-  pub machine-whole : (s : Scheme) → isCiphered s pattern 16 0 ≡ true → (xs : List ℕ) → length xs ≡ total es
+  pub machine-whole : (s : Scheme) (xs : List ℕ) → length xs ≡ total es
       → feedSample E D d s pattern iv es (free 0 iv) xs .released ≡ whole E D iv pattern es d s xs
   unfolding feedSample modeOf whole
-  machine-whole Cenc a xs l = counter-sample (mask Cenc pattern es) (restartMask Cenc es) xs (l ∙ sym (length-mask Cenc pattern es))
-  machine-whole Cbc1 a xs l = cbc1-feed E D sE sD d iv pattern es iv xs (l ∙ sym (length-mask Cbc1 pattern es))
-  machine-whole Cens a xs l = counter-sample (mask Cens pattern es) (restartMask Cens es) xs (l ∙ sym (length-mask Cens pattern es))
-  machine-whole Cbcs a xs l =
-      cbcs-feed E D sE sD d iv pattern (mask Cbcs pattern es) (restartMask Cbcs es) a es xs 0 iv l refl refl
+  machine-whole Cenc xs l = counter-sample (mask Cenc pattern es) (restartMask Cenc es) xs (l ∙ sym (length-mask Cenc pattern es))
+  machine-whole Cbc1 xs l = cbc1-feed E D sE sD d iv pattern es iv xs (l ∙ sym (length-mask Cbc1 pattern es))
+  machine-whole Cens xs l = counter-sample (mask Cens pattern es) (restartMask Cens es) xs (l ∙ sym (length-mask Cens pattern es))
+  machine-whole Cbcs xs l =
+      cbcs-feed E D sE sD d iv pattern (mask Cbcs pattern es) (restartMask Cbcs es) es xs 0 iv l refl refl
 
   -- what has been released at position x is the beginning of the whole sample's result, but for the bytes held
-  pub released : (s : Scheme) → isCiphered s pattern 16 0 ≡ true → (xs : List ℕ) → length xs ≡ total es → (x : ℕ)
-      → x ≤ length xs
+  pub released : (s : Scheme) (xs : List ℕ) → length xs ≡ total es → (x : ℕ) → x ≤ length xs
       → feedSample E D d s pattern iv es (free 0 iv) (take x xs) .released
       ≡ take (x - heldAfter (modeOf s) (count (take x (mask s pattern es)))) (whole E D iv pattern es d s xs)
   unfolding feedSample count
-  released s a xs l x u =
+  released s xs l x u =
       let M : List Bool = mask s pattern es in
       let F : List Bool = restartMask s es in
       let first : Stepped = feed E D d (modeOf s) iv M F (free 0 iv) (take x xs) in
       let rest : List ℕ = feed E D d (modeOf s) iv M F (first .state) (drop x xs) .released in
       let w : whole E D iv pattern es d s xs ≡ first .released ++ rest =
-      sym (machine-whole s a xs l)
+      sym (machine-whole s xs l)
       ∙ (rw (take-append-drop x xs) at (feed-append E D d (modeOf s) iv M F (free 0 iv) (take x xs) (drop x xs))) in
       let added : Added (modeOf s) M (length {A = ℕ} [] + length (take x xs)) first =
       feed-adds E D sE sD d iv M F (modeOf s) (free 0 iv) (take x xs) (sound-start (modeOf s)) in

@@ -1,28 +1,27 @@
 -- What allowed parameters and an accepted map say of a sample's layout.
-use mathlib.Core.Bool.{Bool, true, false, cond, _&&_, _||_, true≢false}
+use mathlib.Core.Bool.{Bool, true, false, cond, _||_, true≢false}
 use mathlib.Core.List.{List, [], _∷_, _++_}
 use mathlib.Core.Logic.{⊎-elim}
 use mathlib.Core.Path.{_≡_, refl, sym, ap, _∙_}
-use Prim.Native.Nat.{ℕ, zero, suc, _+_, _/_, _%_, _≤_, _<_}
-use native.Mathlib.Nat.{zero-add, zero-mod}
+use Prim.Native.Nat.{ℕ, zero, suc, _+_, _≤_, _<_}
+use native.Mathlib.Nat.{zero-add}
 use native.Mathlib.Omega.{arith}
-use lib.Dec.{eqb, leb}
+use lib.Dec.{eqb}
 use lib.ListN.{length, getD}
-use borrow.Author.Tests.{eqb-true, eqb-false, leb-true, lt-ltb, not-false}
+use borrow.Author.Tests.{eqb-true, eqb-false, lt-ltb, not-false}
 use Rattle.octets.specs.Answers.{answer}
 use Rattle.octets.specs.Bytes.{same}
 use Rattle.octets.proofs.Answers.{done-head, done-tail}
 use Rattle.octets.proofs.Tests.{&&-left, &&-right}
 use Rattle.track_spec.specs.declared.Parameters.{Parameters}
-use Rattle.track_spec.specs.Track.{zeros, known, hasConstant, aPattern, eightOrSixteen, allowedProtected, allowedFields, allowed}
+use Rattle.track_spec.specs.Track.{zeros, known, hasConstant, patternOrNone, allowedProtected, allowedFields, allowed}
 use Rattle.track_spec.proofs.Codes.{known-cases}
 use Rattle.subsample_spec.specs.declared.SubsampleMap.{SubsampleMap}
 use Rattle.subsample_spec.specs.Auxiliary.{limit, sum, entryLength, mapRows}
 use Rattle.subsample_spec.proofs.Reading.{count-allowed}
-use Rattle.scheme.specs.declared.Pattern.{Pattern}
 use Rattle.scheme.specs.declared.Scheme.{Scheme}
 use Rattle.scheme.specs.declared.Scheme.the-variants.{Cenc, Cbc1, Cens, Cbcs}
-use Rattle.scheme.specs.Layout.{schemeOf, patternOf, period, inWholeBlock, inCryptRun, isCiphered, Entry, entry, entries, total}
+use Rattle.scheme.specs.Layout.{schemeOf, Entry, entry, entries, total}
 use Rattle.scheme.specs.Part.{protectedEntries, entriesOf}
 
 -- ---- Parameters.
@@ -33,60 +32,26 @@ isCbcs Cbc1 = false
 isCbcs Cens = false
 isCbcs Cbcs = true
 
-module _ (pattern : Pattern) where
-  abbrev crypt : ℕ
-  crypt = pattern .crypt
+-- of a protected track in cbcs the IV is the constant one
+module _ (p : Parameters) (k : known (p .code) ≡ true) (h : allowed p ≡ true) (one : p .protected ≡ 1) (c : schemeOf (p .code) ≡ Cbcs) where
+  fields : allowedProtected (p .code) (p .«iv_size») (p .crypt) (p .skip) ≡ true
+  unfolding allowed allowedFields
+  fields =
+      rw one at
+      (&&-right (hasConstant (p .protected) (p .«iv_size») || same (p .«constant_iv» .0) zeros)
+      (allowedFields (p .code) (p .protected) (p .«iv_size») (p .crypt) (p .skip)) h)
 
-  abbrev skip : ℕ
-  skip = pattern .skip
-
-  some-first : aPattern crypt skip ≡ true → inCryptRun pattern 0 ≡ true
-  unfolding inCryptRun
-  some-first h =
-      let l : 1 ≤ crypt =
-      leb-true 1 crypt (&&-left (leb 1 crypt) (leb crypt 15) (&&-left (leb 1 crypt && leb crypt 15) (leb skip 15) h)) in
-      let z : 0 / 16 % period pattern ≡ 0 = zero-mod (period pattern) in
-      rw z (lt-ltb 0 crypt l)
-
-  -- a range of a protected track begins with a ciphered block
-  pub first-ciphered : (ivSize : ℕ) (code : List ℕ) → known code ≡ true → allowedProtected code ivSize crypt skip ≡ true
-      → isCiphered (schemeOf code) pattern 16 0 ≡ true
-  unfolding schemeOf same allowedProtected isCiphered inWholeBlock
-  first-ciphered ivSize code k h =
-      ⊎-elim (λ e. rw e)
-      (⊎-elim (λ e. rw e)
-      (⊎-elim (λ e. rw e (some-first (&&-right (eightOrSixteen ivSize) (aPattern crypt skip) (rw e at h))))
-      (λ e. rw e (some-first (&&-right (eqb ivSize 0) (aPattern crypt skip) (rw e at h))))))
-      (known-cases code k)
-
-  -- and in cbcs its IV is the constant one
-  pub cbcs-constant : (ivSize : ℕ) (code : List ℕ) → known code ≡ true → allowedProtected code ivSize crypt skip ≡ true → schemeOf code ≡ Cbcs
-      → ivSize ≡ 0
+  pub cbcs-constant : p .«iv_size» ≡ 0
   unfolding schemeOf same allowedProtected
-  cbcs-constant ivSize code k h s =
-      ⊎-elim (λ e. absurd (other Cenc refl (rw e at s)))
-      (⊎-elim (λ e. absurd (other Cbc1 refl (rw e at s)))
-      (⊎-elim (λ e. absurd (other Cens refl (rw e at s)))
-      (λ e. eqb-true ivSize 0 (&&-left (eqb ivSize 0) (aPattern crypt skip) (rw e at h)))))
-      (known-cases code k)
+  cbcs-constant =
+      ⊎-elim (λ e. absurd (other Cenc refl (rw e at c)))
+      (⊎-elim (λ e. absurd (other Cbc1 refl (rw e at c)))
+      (⊎-elim (λ e. absurd (other Cens refl (rw e at c)))
+      (λ e. eqb-true (p .«iv_size») 0 (&&-left (eqb (p .«iv_size») 0) (patternOrNone (p .crypt) (p .skip)) (rw e at fields)))))
+      (known-cases (p .code) k)
     where
       other : (t : Scheme) → isCbcs t ≡ false → t ≡ Cbcs → ⊥
       other t f e = true≢false (sym (ap isCbcs e) ∙ f)
-
--- the fields of a protected track
-pub allowed-protected : (p : Parameters) → allowed p ≡ true → p .protected ≡ 1
-    → allowedProtected (p .code) (p .«iv_size») (p .crypt) (p .skip) ≡ true
-unfolding allowed allowedFields
-allowed-protected p h one =
-    rw one at
-    (&&-right (hasConstant (p .protected) (p .«iv_size») || same (p .«constant_iv» .0) zeros)
-    (allowedFields (p .code) (p .protected) (p .«iv_size») (p .crypt) (p .skip)) h)
-
--- a range of an allowed protected track begins with a ciphered block
-pub allowed-first : (p : Parameters) → known (p .code) ≡ true → allowed p ≡ true → p .protected ≡ 1
-    → isCiphered (schemeOf (p .code)) (patternOf p) 16 0 ≡ true
-unfolding patternOf
-allowed-first p k a one = first-ciphered (patternOf p) (p .«iv_size») (p .code) k (allowed-protected p a one)
 
 -- ---- The map.
 

@@ -68,7 +68,6 @@ module _ {s : Scheme} {pattern : Pattern} {a n x m u : ℕ} (q : EntryAsks s pat
   entry-asks =
       let e : x - a + (m - min (a - x) m) ≡ x + m - a = omega arith in
       record {
-        first = q .first;
         small = q .small;
         within = omega (arith, q .within);
         used = q .used;

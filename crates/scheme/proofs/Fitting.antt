@@ -13,7 +13,7 @@ use Rattle.modes_spec.specs.Modes.{Cipher}
 use Rattle.track_spec.specs.declared.Parameters.{Parameters}
 use Rattle.subsample_spec.specs.declared.SubsampleMap.{SubsampleMap}
 use Rattle.subsample_spec.specs.Auxiliary.{longest}
-use Rattle.scheme.specs.Layout.{patternOf, schemeOf, isCiphered, total, mask, count}
+use Rattle.scheme.specs.Layout.{patternOf, schemeOf, total, mask, count}
 use Rattle.scheme.specs.Machine.{free, feedSample}
 use Rattle.scheme.specs.Part.{protectedEntries, entriesOf, heldUnder, fits, feedUnder, transformed}
 use Rattle.scheme.specs.Walk.{SampleAsks}
@@ -36,8 +36,7 @@ module _ (p : Parameters) (m : SubsampleMap) (n : ℕ) (one : p .protected ≡ 1
   -- the conditions, one by one
   pub fits-is : (x k : ℕ)
       → fits p m n x k
-      ≡ leb n longest && isCiphered (schemeOf (p .code)) (patternOf p) 16 0 && leb (x + k) (total (protectedEntries m n))
-      && eqb (heldUnder p m n x) 0 && eqb (heldUnder p m n (x + k)) 0
+      ≡ leb n longest && leb (x + k) (total (protectedEntries m n)) && eqb (heldUnder p m n x) 0 && eqb (heldUnder p m n (x + k)) 0
   unfolding fits
   fits-is x k = rw protected-entries
 
@@ -46,36 +45,31 @@ module _ (p : Parameters) (m : SubsampleMap) (n : ℕ) (one : p .protected ≡ 1
     a = leb n longest
 
     abbrev b : Bool
-    b = isCiphered (schemeOf (p .code)) (patternOf p) 16 0
+    b = leb (x + k) (total (protectedEntries m n))
 
     abbrev c : Bool
-    c = leb (x + k) (total (protectedEntries m n))
+    c = eqb (heldUnder p m n x) 0
 
     abbrev d : Bool
-    d = eqb (heldUnder p m n x) 0
+    d = eqb (heldUnder p m n (x + k)) 0
 
-    abbrev e : Bool
-    e = eqb (heldUnder p m n (x + k)) 0
-
-    all : (a && b && c && d && e) ≡ true
+    all : (a && b && c && d) ≡ true
     all = sym (fits-is x k) ∙ f
 
     pub fits-length : n ≤ longest
-    fits-length =
-        leb-true n longest (&&-left a b (&&-left (a && b) c (&&-left (a && b && c) d (&&-left (a && b && c && d) e all))))
+    fits-length = leb-true n longest (&&-left a b (&&-left (a && b) c (&&-left (a && b && c) d all)))
 
     pub fits-asks : SampleAsks (schemeOf (p .code)) (patternOf p) (protectedEntries m n) x k
         (count (take x (mask (schemeOf (p .code)) (patternOf p) (protectedEntries m n))) % 16)
     unfolding heldUnder
     fits-asks =
-        let h3 = &&-left (a && b && c) d (&&-left (a && b && c && d) e all) in
-        let h4 : heldUnder p m n x ≡ 0 = eqb-true _ _ (&&-right (a && b && c) d (&&-left (a && b && c && d) e all)) in
-        let h5 : heldUnder p m n (x + k) ≡ 0 = eqb-true _ _ (&&-right (a && b && c && d) e all) in
+        let h2 = &&-left (a && b) c (&&-left (a && b && c) d all) in
+        let h3 : heldUnder p m n x ≡ 0 = eqb-true _ _ (&&-right (a && b) c (&&-left (a && b && c) d all)) in
+        let h4 : heldUnder p m n (x + k) ≡ 0 = eqb-true _ _ (&&-right (a && b && c) d all) in
         record {
-          first = &&-right a b (&&-left (a && b) c h3);
-          within = leb-true (x + k) (total (protectedEntries m n)) (&&-right (a && b) c h3);
-          from = rw protected-entries at h4;
-          to = rw protected-entries at h5;
+          within = leb-true (x + k) (total (protectedEntries m n)) (&&-right a b h2);
+          from = rw protected-entries at h3;
+          to = rw protected-entries at h4;
           rank = refl;
         }
 
@@ -116,12 +110,10 @@ module _ (p : Parameters) (m : SubsampleMap) (n : ℕ) (one : p .protected ≡ 1
       rw (
         fits-is p m n one x k,
         le-leb n longest l,
-        w .first,
         le-leb (x + k) (total (protectedEntries m n)) (w .within),
         eq-eqb (heldUnder p m n x) 0 from,
         eq-eqb (heldUnder p m n (x + k)) 0 to,
       )
 
-  pub fits-whole : isCiphered (schemeOf (p .code)) (patternOf p) 16 0 ≡ true → total (protectedEntries m n) ≡ n → fits p m n 0 n ≡ true
-  fits-whole pattern t =
-      asks-fits 0 n 0 (whole-asks (patternOf p) (schemeOf (p .code)) (protectedEntries m n) n pattern (sym t))
+  pub fits-whole : total (protectedEntries m n) ≡ n → fits p m n 0 n ≡ true
+  fits-whole t = asks-fits 0 n 0 (whole-asks (patternOf p) (schemeOf (p .code)) (protectedEntries m n) n (sym t))

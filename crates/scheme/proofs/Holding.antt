@@ -310,13 +310,13 @@ module _ (E D : Cipher) (sE : Sized E) (sD : Sized D) (d : Direction) (s : Schem
       let b : Back s pattern es x (H x) = held-marks s pattern k es x in
       (b .low, held-chain pattern s es (x - H x) k ∙ b .start)
 
-  pub piece-asks : isCiphered s pattern 16 0 ≡ true → end ≤ total es → (u : ℕ) → count (take (p - H p) (mask s pattern es)) % 16 ≡ u
+  pub piece-asks : end ≤ total es → (u : ℕ) → count (take (p - H p) (mask s pattern es)) % 16 ≡ u
       → SampleAsks s pattern es (p - H p) (length (take due all)) u
-  piece-asks first l u r =
+  piece-asks l u r =
       let a = begins (modeOf s) refl p in
       let b = begins (modeOf s) refl end in
       let e : p - H p + length (take due all) ≡ end - H end = rw size-due (omega (arith, a .0, b .0, size-all, held-few)) in
-      record { first = first; within = omega arith; from = a .1; to = rw e (b .1); rank = r }
+      record { within = omega arith; from = a .1; to = rw e (b .1); rank = r }
 
 -- fewer bytes are held than a block has
 pub held-small : (pattern : Pattern) (s : Scheme) (es : List Entry) (x : ℕ) → heldAt pattern es s x ≤ 15

@@ -1,3 +1,4 @@
+pub mod Patterns
 pub mod Pieces
 pub mod Agreement
 pub mod Positions

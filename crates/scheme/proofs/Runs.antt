@@ -1,11 +1,11 @@
 -- The runs of a range.
-use mathlib.Core.Path.{_≡_, refl, sym, ap, _∙_}
+use mathlib.Core.Path.{_≡_, refl, ap, _∙_}
 use mathlib.Core.Bool.{Bool, true, false, _&&_}
 use Prim.Native.Nat.{ℕ, _+_, _-_, _*_, _/_, _%_, _≤_, _<_, min}
 use native.Mathlib.Nat.{mod-eq-of-lt, mul-add-mod-self-left, div-add-mod, mod-le, mod-lt}
 use native.Mathlib.Omega.{arith}
 use lib.Dec.{ltb}
-use borrow.Author.Tests.{lt-ltb, le-ltb, ltb-true}
+use borrow.Author.Tests.{lt-ltb, le-ltb}
 use Rattle.scheme.specs.declared.Pattern.{Pattern}
 use Rattle.scheme.specs.declared.Scheme.{Scheme}
 use Rattle.scheme.specs.declared.Scheme.the-variants.{Cenc, Cbc1, Cens, Cbcs}
@@ -13,6 +13,7 @@ use Rattle.scheme.specs.Layout.{period, inWholeBlock, inCryptRun, isCiph
 use Rattle.scheme.specs.declared.Mode.the-variants.{Counter, Chain}
 use Rattle.scheme.specs.Machine.{modeOf}
 use Rattle.scheme.specs.Walk.{RunAt}
+use Rattle.scheme.proofs.Patterns.{every-block, by-period}
 
 -- a counter scheme is no chain scheme, and a test that failed did not hold
 pub apart : {A : Type 0} → Counter ≡ Chain → A
@@ -67,11 +68,25 @@ module _ (pattern : Pattern) (n o : ℕ) (l : o < n) (w : n / 16 * 16 ≤ o) whe
         freed = λ e f. unheld (h n ∙ rw (out n (omega arith))) f;
       }
 
+-- 0:0: the whole blocks, as one run
+pub run-every : (pattern : Pattern) (n o : ℕ) → period pattern ≡ 0 → o < n / 16 * 16 → (s : Scheme)
+    → ((x : ℕ) → isCiphered s pattern n x ≡ (inWholeBlock n x) && (inCryptRun pattern x)) → RunAt s pattern n o true (n / 16 * 16)
+unfolding inWholeBlock
+run-every pattern n o e l s h =
+    record {
+      past = l;
+      within = omega arith;
+      same = λ x a b. h x ∙ rw (lt-ltb (x / 16) (n / 16) (omega arith), every-block pattern x e);
+      aligned = λ e f. omega arith;
+      freed = λ e f. omega arith;
+    }
+
 -- the blocks of one turn of the pattern: f is its first block's number
 within-turn : (m q t : ℕ) → t < m → (m * q + t) % m ≡ t
 within-turn m q t l = mul-add-mod-self-left m q t ∙ mod-eq-of-lt l
 
-module _ (pattern : Pattern) (n o f : ℕ) (q : ℕ) (ef : f ≡ (period pattern) * q) (lf : f ≤ o / 16) (w : o < n / 16 * 16) where
+module _ (pattern : Pattern) (n o f : ℕ) (q : ℕ) (ef : f ≡ (period pattern) * q) (lf : f ≤ o / 16) (w : o < n / 16 * 16)
+    (some : 1 ≤ period pattern) where
   at-block : (y : ℕ) → f ≤ y → y - f < period pattern → y % (period pattern) ≡ y - f
   at-block y a l =
       let e : y ≡ (period pattern) * q + (y - f) = omega arith in
@@ -79,13 +94,13 @@ module _ (pattern : Pattern) (n o f : ℕ) (q : ℕ) (ef : f ≡ (period pattern
 
   module _ (s : Scheme) (h : (x : ℕ) → isCiphered s pattern n x ≡ (inWholeBlock n x) && (inCryptRun pattern x)) where
     pub run-crypt : o / 16 - f < pattern .crypt → RunAt s pattern n o true (min ((f + pattern .crypt) * 16) (n / 16 * 16))
-    unfolding inWholeBlock inCryptRun
+    unfolding inWholeBlock
     run-crypt l =
         record {
           past = omega arith;
           within = omega arith;
           same = λ x a b. h x
-              ∙ rw (lt-ltb (x / 16) (n / 16) (omega arith), at-block (x / 16) (omega arith) (omega arith))
+              ∙ rw (lt-ltb (x / 16) (n / 16) (omega arith), by-period pattern x some, at-block (x / 16) (omega arith) (omega arith))
               (lt-ltb (x / 16 - f) (pattern .crypt) (omega arith));
           aligned = λ e g. omega arith;
           freed = λ e g. omega arith;
@@ -93,13 +108,13 @@ module _ (pattern : Pattern) (n o f : ℕ) (q : ℕ) (ef : f ≡ (period pattern
 
     pub run-skip : pattern .crypt ≤ o / 16 - f → o / 16 - f < period pattern
         → RunAt s pattern n o false (min ((f + (period pattern)) * 16) (n / 16 * 16))
-    unfolding inWholeBlock inCryptRun
+    unfolding inWholeBlock
     run-skip l k =
         record {
           past = omega arith;
           within = omega arith;
           same = λ x a b. h x
-              ∙ rw (lt-ltb (x / 16) (n / 16) (omega arith), at-block (x / 16) (omega arith) (omega arith))
+              ∙ rw (lt-ltb (x / 16) (n / 16) (omega arith), by-period pattern x some, at-block (x / 16) (omega arith) (omega arith))
               (le-ltb (x / 16 - f) (pattern .crypt) (omega arith));
           aligned = λ e g. omega arith;
           freed = λ e g. omega arith;
@@ -114,7 +129,7 @@ unfolding isCiphered
 is-cbcs pattern n x = refl
 
 -- the same by the block's place in its turn of the pattern
-module _ (pattern : Pattern) (n o e : ℕ) (some : 1 ≤ pattern .crypt) (w : o < n / 16 * 16) (s : Scheme)
+module _ (pattern : Pattern) (n o e : ℕ) (some : 1 ≤ period pattern) (w : o < n / 16 * 16) (s : Scheme)
     (h : (x : ℕ) → isCiphered s pattern n x ≡ (inWholeBlock n x) && (inCryptRun pattern x)) where
   abbrev first : ℕ
   first = o / 16 - o / 16 % (period pattern)
@@ -126,7 +141,7 @@ module _ (pattern : Pattern) (n o e : ℕ) (some : 1 ≤ pattern .crypt) (w : o 
       → RunAt s pattern n o true e
   pattern-crypt l g =
       rw g
-      (run-crypt pattern n o first (o / 16 / (period pattern)) first-is (omega arith) w s h
+      (run-crypt pattern n o first (o / 16 / (period pattern)) first-is (omega arith) w some s h
       (omega (arith, mod-le (o / 16) (period pattern))))
 
   pub pattern-skip : pattern .crypt ≤ o / 16 % (period pattern) → e ≡ min ((first + (period pattern)) * 16) (n / 16 * 16)
@@ -134,14 +149,5 @@ module _ (pattern : Pattern) (n o e : ℕ) (some : 1 ≤ pattern .crypt) (w : o 
   pattern-skip l g =
       let k : o / 16 % (period pattern) < period pattern = mod-lt (o / 16) (omega arith) in
       rw g
-      (run-skip pattern n o first (o / 16 / (period pattern)) first-is (omega arith) w s h
+      (run-skip pattern n o first (o / 16 / (period pattern)) first-is (omega arith) w some s h
       (omega (arith, mod-le (o / 16) (period pattern))) (omega (arith, mod-le (o / 16) (period pattern))))
-
--- a pattern whose first block is ciphered has crypt blocks
-pub some-crypt : (s : Scheme) (pattern : Pattern)
-    → ((x : ℕ) → isCiphered s pattern 16 x ≡ inWholeBlock 16 x && inCryptRun pattern x)
-    → isCiphered s pattern 16 0 ≡ true → 1 ≤ pattern .crypt
-unfolding inWholeBlock inCryptRun
-some-crypt s pattern h e =
-    let l : ltb (0 / 16 % (period pattern)) (pattern .crypt) ≡ true = sym (h 0) ∙ e in
-    omega (arith, ltb-true (0 / 16 % (period pattern)) (pattern .crypt) l)

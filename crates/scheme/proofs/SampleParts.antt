@@ -251,7 +251,6 @@ module _ (E D : Cipher) (d : Direction) (s : Scheme) (pattern : Pattern) (iv : L
         walk-asks small =
             rw sub-length
             (record {
-              first = a .first;
               small = small;
               within = omega arith;
               used = w .used;
@@ -336,12 +335,11 @@ module _ (pattern : Pattern) where
   held-no Cens es x h = refl
   held-no Cbcs es x h = h
 
-  pub whole-asks : (s : Scheme) (es : List Entry) (m : ℕ) → isCiphered s pattern 16 0 ≡ true → m ≡ total es → SampleAsks s pattern es 0 m 0
+  pub whole-asks : (s : Scheme) (es : List Entry) (m : ℕ) → m ≡ total es → SampleAsks s pattern es 0 m 0
   unfolding count
-  whole-asks s es m p l =
+  whole-asks s es m l =
       let z : 0 + m ≡ total es = omega arith in
       record {
-        first = p;
         within = omega arith;
         from = held-no s es 0 (held-start pattern s es);
         to = rw z (held-no s es (total es) (held-end s es));

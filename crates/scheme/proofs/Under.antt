@@ -106,11 +106,11 @@ module _ (E D : Cipher) (sE : Sized E) (sD : Sized D) (d : Direction) (p : Param
     unfolding part.heldUnder part.ciphered
     protected-released x u =
         rw (under-iv (take x xs), sym (heldAt-is (patternOf p) es s x))
-        (released E D sE sD d iv (b .bytes) (patternOf p) es s (b .first one) xs l x u)
+        (released E D sE sD d iv (b .bytes) (patternOf p) es s xs l x u)
 
     protected-whole : part.feedUnder E D d p m (length xs) (free 0 iv) xs .released ≡ part.ciphered E D d p m iv xs
     unfolding part.ciphered
-    protected-whole = rw (under-iv xs) (machine-whole E D sE sD d iv (b .bytes) (patternOf p) es s (b .first one) xs l)
+    protected-whole = rw (under-iv xs) (machine-whole E D sE sD d iv (b .bytes) (patternOf p) es s xs l)
 
   -- what has been released at position x is the beginning of the whole sample's result, but for the bytes held
   pub fed-released : (x : ℕ) → x ≤ length xs

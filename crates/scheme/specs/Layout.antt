@@ -5,7 +5,7 @@ use Prim.Native.Nat.{ℕ, zero, suc, _+_, _/_, _%_}
 use lib.Dec.{ltb, eqb}
 use lib.ListN.{replicate}
 use Rattle.octets.specs.Bytes.{same}
-use Rattle.track_spec.specs.Track.{cbc1, cens, cbcs}
+use Rattle.track_spec.specs.Track.{cbc1, cens, cbcs, noPattern}
 use Rattle.track_spec.specs.declared.Parameters.{Parameters}
 use Rattle.scheme.specs.declared.Pattern.{Pattern}
 use Rattle.scheme.specs.declared.Scheme.{Scheme}
@@ -29,9 +29,10 @@ period pattern = pattern .crypt + pattern .skip
 unfoldable pub inWholeBlock : ℕ → ℕ → Bool
 inWholeBlock n o = ltb (o / 16) (n / 16)
 
--- The block at offset o is one of the crypt blocks that each crypt + skip blocks begin with.
+-- The block at offset o is one of the crypt blocks that each crypt + skip blocks begin with. "0:0 ciphers every whole block of a
+-- range" (document 02, Ask 2): it has no period, and each block is one of them.
 unfoldable pub inCryptRun : Pattern → ℕ → Bool
-inCryptRun pattern o = ltb (o / 16 % period pattern) (pattern .crypt)
+inCryptRun pattern o = cond (noPattern (pattern .crypt) (pattern .skip)) true (ltb (o / 16 % period pattern) (pattern .crypt))
 
 -- The byte at offset o is ciphered.
 unfoldable pub isCiphered : Scheme → Pattern → ℕ → ℕ → Bool

@@ -1,6 +1,6 @@
 -- A sample under parameters and a map: its entries, the bytes held at a position, and a part of it ciphered where it lies
 -- (document 01, "A sample's auxiliary data", "Which bytes are ciphered, and how" and "Pieces").
-use mathlib.Core.Bool.{Bool, true, cond, _&&_}
+use mathlib.Core.Bool.{Bool, cond, _&&_}
 use mathlib.Core.List.{List, [], _∷_}
 use mathlib.Core.Path.{_≡_}
 use Prim.Native.Nat.{ℕ, _+_}
@@ -13,7 +13,7 @@ use Rattle.track_spec.specs.declared.Parameters.{Parameters}
 use Rattle.subsample_spec.specs.declared.SubsampleMap.{SubsampleMap}
 use Rattle.subsample_spec.specs.Auxiliary.{longest}
 use Rattle.scheme.specs.declared.Scheme.the-variants.{Cbcs}
-use Rattle.scheme.specs.Layout.{patternOf, schemeOf, isCiphered, Entry, entry, entries, total}
+use Rattle.scheme.specs.Layout.{patternOf, schemeOf, Entry, entry, entries, total}
 use Rattle.scheme.specs.WholeSample.{whole}
 use Rattle.scheme.specs.Machine.{State, Stepped, free, feedSample}
 use Rattle.scheme.specs.Held.{heldAt}
@@ -30,11 +30,9 @@ entriesOf p m n = cond (eqb (p .protected) 1) (protectedEntries m n) (entry n 0 
 unfoldable pub ciphered : Cipher → Cipher → Direction → Parameters → SubsampleMap → List ℕ → List ℕ → List ℕ
 ciphered E D d p m iv xs = whole E D iv (patternOf p) (entriesOf p m (length xs)) d (schemeOf (p .code)) xs
 
--- What the start says of parameters and IV: a range of a protected track begins with a ciphered block, and in cbcs the IV is
--- the constant one.
+-- What the start says of parameters and IV: of a protected track in cbcs the IV is the constant one.
 pub record Begins (p : Parameters) (iv : List ℕ) : Type 0 where
   pub bytes : Bytes 16 iv
-  pub first : p .protected ≡ 1 → isCiphered (schemeOf (p .code)) (patternOf p) 16 0 ≡ true
   pub constant : p .protected ≡ 1 → schemeOf (p .code) ≡ Cbcs → p .«constant_iv» .0 ≡ iv
 
 module _ (p : Parameters) (m : SubsampleMap) (n : ℕ) where
@@ -42,12 +40,11 @@ module _ (p : Parameters) (m : SubsampleMap) (n : ℕ) where
   unfoldable pub heldUnder : ℕ → ℕ
   heldUnder x = heldAt (patternOf p) (entriesOf p m n) (schemeOf (p .code)) x
 
-  -- k bytes from position x on can be ciphered where they lie: they are in a sample of allowed length whose ranges begin with a
-  -- ciphered block, and nothing is held where they begin and where they end.
+  -- k bytes from position x on can be ciphered where they lie: they are in a sample of allowed length, and nothing is held where
+  -- they begin and where they end.
   unfoldable pub fits : ℕ → ℕ → Bool
   fits x k =
-      leb n longest && isCiphered (schemeOf (p .code)) (patternOf p) 16 0 && leb (x + k) (total (entriesOf p m n))
-      && eqb (heldUnder x) 0 && eqb (heldUnder (x + k)) 0
+      leb n longest && leb (x + k) (total (entriesOf p m n)) && eqb (heldUnder x) 0 && eqb (heldUnder (x + k)) 0
 
 module _ (E D : Cipher) (d : Direction) (p : Parameters) (m : SubsampleMap) (n : ℕ) where
   -- The machine under parameters and a map; a range's first block takes the constant IV.

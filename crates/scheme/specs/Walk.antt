@@ -53,9 +53,8 @@ pub record RunAt (s : Scheme) (pattern : Pattern) (n o : ℕ) (b : Bool) (e : �
   pub aligned : modeOf s ≡ Chain → b ≡ true → e % 16 ≡ 0
   pub freed : Free s pattern n e
 
--- A part of m bytes from offset o on of a range of n bytes; a range begins with a ciphered block.
+-- A part of m bytes from offset o on of a range of n bytes.
 pub record RangeAsks (s : Scheme) (pattern : Pattern) (n o m u : ℕ) : Type 0 where
-  pub first : isCiphered s pattern 16 0 ≡ true
   pub small : n < 2 ^ 32
   pub within : o + m ≤ n
   pub used : u < 16
@@ -75,7 +74,6 @@ entryMarks f a n = replicate a false ++ rangeMarks f n
 
 -- A part of m bytes from offset x on of an entry of a clear and n protected bytes.
 pub record EntryAsks (s : Scheme) (pattern : Pattern) (a n x m u : ℕ) : Type 0 where
-  pub first : isCiphered s pattern 16 0 ≡ true
   pub small : n < 2 ^ 32
   pub within : x + m ≤ a + n
   pub used : u < 16
@@ -92,7 +90,6 @@ pub record EntrySays (E D : Cipher) (d : Direction) (s : Scheme) (pattern : Patt
 
 -- A part of m bytes from position x on of a sample: it begins and ends where nothing is held.
 pub record SampleAsks (s : Scheme) (pattern : Pattern) (es : List Entry) (x m u : ℕ) : Type 0 where
-  pub first : isCiphered s pattern 16 0 ≡ true
   pub within : x + m ≤ total es
   pub from : heldAt pattern es s x ≡ 0
   pub to : heldAt pattern es s (x + m) ≡ 0

@@ -11,7 +11,6 @@ use Rattle.octets.specs.Bytes.{filled}
 use Rattle.aes.specs.Block.{roundKeys, encipher, decipher, encipher-length, decipher-length}
 use Rattle.modes_spec.specs.Modes.{Cipher}
 use Rattle.track_spec.specs.declared.Parameters.{Parameters}
-use Rattle.track_spec.proofs.Checking.{check-known, check-allowed}
 use Rattle.subsample_spec.specs.declared.SubsampleMap.{SubsampleMap}
 use Rattle.subsample_spec.specs.Auxiliary.{limit}
 use Rattle.scheme.specs.declared.Pattern.{Pattern}
@@ -21,7 +20,7 @@ use Rattle.scheme.specs.Machine.{Stepped, free}
 use Rattle.scheme.specs.Held.{heldAt}
 use Rattle.scheme.specs.Part.{entriesOf, heldUnder, fits, feedUnder, transformed}
 use Rattle.scheme.specs.Walk.{left, SampleAsks}
-use Rattle.scheme.proofs.Allowed.{allowed-first, protected-total}
+use Rattle.scheme.proofs.Allowed.{protected-total}
 use Rattle.scheme.proofs.Under.{clear-fed}
 use Rattle.scheme.proofs.Fitting.{protected-entries, asks-fits, transformed-clear}
 use Rattle.scheme.proofs.Holding.{piece-says, piece-asks}
@@ -139,8 +138,7 @@ module _ (t : Stream) (ok : sound t ≡ true) (w : Places t) (piece : List ℕ)
     asked =
         (rw (at-start, at-end) at
         (piece-asks E D (λ b l. encipher-length _ b) (λ b l. decipher-length _ b) (q .direction) s pattern
-        (p .«constant_iv» .0) es (g .position) (g .block .0) h piece h-held
-        (allowed-first p (check-known p (rules .parameters)) (check-allowed p (rules .parameters)) one) (omega (arith, whole))))
+        (p .«constant_iv» .0) es (g .position) (g .block .0) h piece h-held (omega (arith, whole))))
         (count (take x (mask s pattern es)) % 16) refl
 
     part-fits : fits p m n x (length part) ≡ true

@@ -54,6 +54,13 @@ fn a_pattern(crypt: u8, skip: u8) -> bool
     skip <= Parameters::MOST_BLOCKS
 }
 
+// What cens and cbcs may have: a pattern, or 0:0.
+fn pattern_or_none(crypt: u8, skip: u8) -> bool
+    ensures { λ r. ⌜ r ≡ spec.patternOrNone crypt skip ⌝ }
+{
+    no_pattern(crypt, skip) || a_pattern(crypt, skip)
+}
+
 fn eight_or_sixteen(iv_size: u8) -> bool
     ensures { λ r. ⌜ r ≡ spec.eightOrSixteen «iv_size» ⌝ }
 {
@@ -77,9 +84,9 @@ fn allowed_protected(code: [u8; 4], iv_size: u8, crypt: u8, skip: u8) -> bool
         return both(iv_size == 16, no_pattern(crypt, skip));
     }
     if octets::same(&code, b"cens") {
-        return both(eight_or_sixteen(iv_size), a_pattern(crypt, skip));
+        return both(eight_or_sixteen(iv_size), pattern_or_none(crypt, skip));
     }
-    both(iv_size == 0, a_pattern(crypt, skip))
+    both(iv_size == 0, pattern_or_none(crypt, skip))
 }
 
 fn allowed_fields(code: [u8; 4], protected: u8, iv_size: u8, crypt: u8, skip: u8) -> bool

@@ -12,7 +12,7 @@ use Rattle.octets.specs.Bytes.{same}
 use Rattle.octets.proofs.Bytes.{same-equal}
 use Rattle.octets.proofs.Tests.{&&-left, &&-right, or-true-cases}
 use Rattle.track_spec.specs.declared.Parameters.{Parameters}
-use Rattle.track_spec.specs.Track.{cenc, cbc1, cens, cbcs, zeros, known, hasConstant, noPattern, aPattern, eightOrSixteen, allowedProtected, allowedFields, allowed}
+use Rattle.track_spec.specs.Track.{cenc, cbc1, cens, cbcs, zeros, known, hasConstant, noPattern, aPattern, patternOrNone, eightOrSixteen, allowedProtected, allowedFields, allowed}
 
 -- a known code is one of the four
 pub known-cases : (code : List ℕ) → known code ≡ true → (code ≡ cenc) ⊎ ((code ≡ cbc1) ⊎ ((code ≡ cens) ⊎ (code ≡ cbcs)))
@@ -45,6 +45,10 @@ a-pattern-small crypt skip h =
     let l = &&-left (leb 1 crypt && leb crypt 15) (leb skip 15) h in
     (leb-true crypt 15 (&&-right (leb 1 crypt) (leb crypt 15) l), leb-true skip 15 (&&-right (leb 1 crypt && leb crypt 15) (leb skip 15) h))
 
+pattern-or-none-small : (crypt skip : ℕ) → patternOrNone crypt skip ≡ true → Small crypt skip
+pattern-or-none-small crypt skip h =
+    ⊎-elim (no-pattern-small crypt skip) (a-pattern-small crypt skip) (or-true-cases (noPattern crypt skip) (aPattern crypt skip) h)
+
 cond-true : (b x y : Bool) → cond b x y ≡ true → (x ≡ true) ⊎ (y ≡ true)
 cond-true true x y e = inl e
 cond-true false x y e = inr e
@@ -57,8 +61,8 @@ module _ (code : List ℕ) (ivSize crypt skip : ℕ) where
       (λ g.
       ⊎-elim (λ e. no-pattern-small crypt skip (&&-right (eqb ivSize 16) _ e))
       (λ k.
-      ⊎-elim (λ e. a-pattern-small crypt skip (&&-right (eightOrSixteen ivSize) _ e))
-      (λ e. a-pattern-small crypt skip (&&-right (eqb ivSize 0) _ e)) (cond-true (same code cens) _ _ k))
+      ⊎-elim (λ e. pattern-or-none-small crypt skip (&&-right (eightOrSixteen ivSize) _ e))
+      (λ e. pattern-or-none-small crypt skip (&&-right (eqb ivSize 0) _ e)) (cond-true (same code cens) _ _ k))
       (cond-true (same code cbc1) _ _ g))
       (cond-true (same code cenc) _ _ h)
 

@@ -50,6 +50,10 @@ noPattern crypt skip = eqb crypt 0 && eqb skip 0
 abbrev pub aPattern : ℕ → ℕ → Bool
 aPattern crypt skip = leb 1 crypt && leb crypt 15 && leb skip 15
 
+-- What cens and cbcs may have: a pattern, or 0:0 (document 02, Ask 2).
+abbrev pub patternOrNone : ℕ → ℕ → Bool
+patternOrNone crypt skip = noPattern crypt skip || aPattern crypt skip
+
 abbrev pub eightOrSixteen : ℕ → Bool
 eightOrSixteen ivSize = eqb ivSize 8 || eqb ivSize 16
 
@@ -58,8 +62,8 @@ unfoldable pub allowedProtected : List ℕ → ℕ → ℕ → ℕ → Bool
 allowedProtected code ivSize crypt skip =
     cond (same code cenc) (eightOrSixteen ivSize && noPattern crypt skip)
     (cond (same code cbc1) (eqb ivSize 16 && noPattern crypt skip)
-    (cond (same code cens) (eightOrSixteen ivSize && aPattern crypt skip)
-    (eqb ivSize 0 && aPattern crypt skip)))
+    (cond (same code cens) (eightOrSixteen ivSize && patternOrNone crypt skip)
+    (eqb ivSize 0 && patternOrNone crypt skip)))
 
 -- What a track may have; the flag is 0 or 1.
 unfoldable pub allowedFields : List ℕ → ℕ → ℕ → ℕ → ℕ → Bool

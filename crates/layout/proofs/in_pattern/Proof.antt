@@ -1,6 +1,6 @@
-use Prim.Native.Nat.{_/_, _%_}
 use borrow.Author.Tests.{lt-ltb, le-ltb}
-use Rattle.scheme.specs.Layout.{period, inWholeBlock, inCryptRun}
+use Rattle.scheme.specs.Layout.{inWholeBlock}
+use Rattle.scheme.proofs.Patterns.{every-block, by-period}
 use borrow.Author.Needs.{needs}
 use native.Mathlib.Omega.{arith}
 use Rattle.layout.proofs.in_pattern.Statement.{statement}
@@ -11,16 +11,18 @@ unfolding inWholeBlock
 returns c = rw (le-ltb _ _ (c .if1 .taken))
 
 returns-2 : tie.Need-returns-2
-unfolding inWholeBlock inCryptRun
+unfolding inWholeBlock
 returns-2 c =
-    let a = c .before .before .before .args in
-    rw (lt-ltb _ _ (c .before .before .if1 .left), le-ltb (a .o / 16 % period (a .pattern)) (a .pattern .crypt) (omega (arith, c .if2 .taken)))
+    let a = c .before .before .before .before .args in
+    rw (lt-ltb _ _ (c .before .before .before .if1 .left), every-block (a .pattern) (a .o) (omega (arith, c .if2 .taken)))
 
 returns-3 : tie.Need-returns-3
-unfolding inWholeBlock inCryptRun
-returns-3 c = rw (lt-ltb _ _ (c .before .before .before .if1 .left))
+unfolding inWholeBlock
+returns-3 c =
+    let a = c .before .before .before .before .args in
+    rw (lt-ltb _ _ (c .before .before .before .if1 .left), by-period (a .pattern) (a .o) (omega (arith, c .if2 .left)))
 
 pub in-pattern-spec : {M : Type 1} → statement M
 in-pattern-spec =
     tie.close
-    (tie.spec returns (search needs) returns-2 (search needs) (search needs) (search needs) returns-3)
+    (tie.spec returns (search needs) (search needs) (search needs) returns-2 (search needs) returns-3)

@@ -35,7 +35,7 @@ returns-3 c =
       sym (b .before .same2 .ensures) ∙ b .if2 .left,
       sym (t .before .same3 .ensures) ∙ t .if3 .taken,
       c .both3 .ensures,
-      c .before .a-pattern .ensures,
+      c .before .pattern-or-none .ensures,
       c .before .before .eight-or-sixteen2 .ensures,
     )
 
@@ -50,7 +50,7 @@ returns-4 c =
       sym (b .before .same2 .ensures) ∙ b .if2 .left,
       sym (t .before .same3 .ensures) ∙ t .if3 .left,
       c .both4 .ensures,
-      c .before .a-pattern2 .ensures,
+      c .before .pattern-or-none2 .ensures,
     )
 
 pub allowed-protected-spec : {M : Type 1} → statement M

@@ -1,26 +1,16 @@
-use mathlib.Core.Path.{_≡_}
-use mathlib.Core.Bool.{true}
-use Rattle.scheme.specs.declared.Scheme.the-variants.{Cens, Cbcs}
-use Rattle.scheme.specs.Layout.{isCiphered}
-use Rattle.scheme.proofs.Runs.{run-cenc, some-crypt, is-cens, is-cbcs}
+use Rattle.scheme.proofs.Runs.{run-cenc}
 use borrow.Author.Needs.{needs}
 use Rattle.part.proofs.runs.run_at.Statement.{statement}
 use Rattle.part.proofs.runs.run_at.Tie as tie
 
 pattern-run-requires : tie.Need-pattern-run-requires
-pattern-run-requires c κs =
-    let s = c .before .before in
-    let first : isCiphered Cens (s .args .pattern) 16 0 ≡ true = rw (c .enum-told3 .given .1) at (s .pre .0) in
-    (s .pre .1, some-crypt Cens _ (is-cens _ 16) first, s .pre .2)
+pattern-run-requires c κs = c .before .before .pre
 
 pattern-run-requires-2 : tie.Need-pattern-run-requires-2
-pattern-run-requires-2 c κs =
-    let s = c .before .before in
-    let first : isCiphered Cbcs (s .args .pattern) 16 0 ≡ true = rw (c .enum-told4 .given .1) at (s .pre .0) in
-    (s .pre .1, some-crypt Cbcs _ (is-cbcs _ 16) first, s .pre .2)
+pattern-run-requires-2 c κs = c .before .before .pre
 
 returns : tie.Need-returns
-returns c = rw (c .enum-told .given .1) (run-cenc _ _ _ (c .before .before .pre .1))
+returns c = rw (c .enum-told .given .1) (run-cenc _ _ _ (c .before .before .pre .0))
 
 returns-2 : tie.Need-returns-2
 returns-2 c = rw (c .before .enum-told2 .given .1) (c .whole-run .ensures _)

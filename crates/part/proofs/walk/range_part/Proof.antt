@@ -44,7 +44,7 @@ add-o c = omega (arith, start (c .before) .pre .within, start (c .before) .pre .
 run-at-requires : tie.Need-run-at-requires Inv-loop μ-loop
 run-at-requires c κs =
     let s = start (c .before) in
-    (s .pre .first, omega (arith, s .pre .within, left c), s .pre .small)
+    (omega (arith, s .pre .within, left c), s .pre .small)
 
 sub-least : tie.Need-sub-least Inv-loop μ-loop
 sub-least c = omega (arith, c .before .run-at .ensures .past)
