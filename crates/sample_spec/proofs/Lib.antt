@@ -3,4 +3,5 @@ pub mod Accepted
 pub mod Counters
 pub mod RoundTrip
 pub mod Depends
+pub mod WholeBlocks
 pub mod Examples

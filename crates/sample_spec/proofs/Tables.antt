@@ -40,7 +40,7 @@ module _ (i : Inputs) (n : ℕ) where
   box-decides h = join-refused boxRows (keysRows ++ dataRows) h
 
   module _ (b : answer boxRows ≡ 0) where
-    box-done : answer (sampleRows i n) ≡ answer (keysRows ++ dataRows)
+    pub box-done : answer (sampleRows i n) ≡ answer (keysRows ++ dataRows)
     unfolding sampleRows
     box-done = join-done (read-refusals (i .code) (i .box)) (keysRows ++ dataRows) b
 

@@ -1,3 +1,4 @@
 pub mod Sample
 pub mod Counters
 pub mod Depends
+pub mod WholeBlocks

@@ -1,4 +1,5 @@
 pub mod Patterns
+pub mod SamePattern
 pub mod Pieces
 pub mod Agreement
 pub mod Positions

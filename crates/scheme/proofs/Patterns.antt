@@ -3,7 +3,7 @@ use mathlib.Core.Bool.{Bool, true, false, cond}
 use mathlib.Core.Logic.{_⊎_, inl, inr}
 use mathlib.Core.Path.{_≡_, refl}
 use Prim.Native.Nat.{ℕ, zero, suc, _+_, _/_, _%_, _≤_}
-use native.Mathlib.Nat.{zero-mod}
+use native.Mathlib.Nat.{zero-mod, mod-one}
 use native.Mathlib.Omega.{arith}
 use lib.Dec.{ltb}
 use borrow.Author.Tests.{eq-eqb, ne-eqb, lt-ltb, le-ltb}
@@ -43,3 +43,8 @@ first-or-none pattern = go (pattern .crypt) (pattern .skip)
     go zero zero = inl refl
     go zero (suc s) = inr (λ k. rw (ne-eqb (suc s) 0 (omega arith)) (le-ltb (k % (0 + suc s)) 0 (omega arith)))
     go (suc c) s = inl (rw (ne-eqb (suc c) 0 (omega arith), zero-mod (suc c + s)) (lt-ltb 0 (suc c) (omega arith)))
+
+-- 0:0 ciphers the blocks that 1:0 does
+pub as-one-to-zero : (o : ℕ) → inCryptRun (record { crypt = 0; skip = 0 }) o ≡ inCryptRun (record { crypt = 1; skip = 0 }) o
+unfolding inCryptRun
+as-one-to-zero o = rw (mod-one (o / 16))

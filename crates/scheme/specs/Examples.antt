@@ -1,5 +1,5 @@
--- Document 01, "Which bytes are ciphered, and how" and "Errors that look right": small samples and what becomes of them. Each tells one
--- of the errors from what is right.
+-- Document 01, "Which bytes are ciphered, and how" and "Errors that look right", and document 02, Ask 2: small samples and what becomes
+-- of them. Each tells one of the errors from what is right.
 use mathlib.Core.List.{List, [], _∷_, _++_}
 use Prim.Native.Nat.{ℕ, _+_}
 use lib.ListN.{replicate}
@@ -67,7 +67,9 @@ counterExamples =
     -- cens: a last part shorter than 16 stays clear, and is not padded.
     ∷ counted Cens (cryptSkip 2 1) (entry 0 24 ∷ []) (replicate 24 0) (span 0 16 ++ replicate 8 0)
     -- The pattern starts anew in each range, and the counter goes on.
-    ∷ counted Cens (cryptSkip 1 1) (entry 0 16 ∷ entry 0 32 ∷ []) (replicate 48 0) (span 0 32 ++ replicate 16 0) ∷ []
+    ∷ counted Cens (cryptSkip 1 1) (entry 0 16 ∷ entry 0 32 ∷ []) (replicate 48 0) (span 0 32 ++ replicate 16 0)
+    -- 0:0: every whole block of a range, and nothing of a last part; the counter goes on with the next range's first block.
+    ∷ counted Cens (cryptSkip 0 0) (entry 0 20 ∷ entry 4 32 ∷ []) (replicate 56 0) (span 0 16 ++ (replicate 8 0 ++ span 16 32)) ∷ []
 
 -- ---- Chain schemes.
 
@@ -88,7 +90,12 @@ cbcsExamples =
     ∷ chained Lock Cbcs (cryptSkip 1 1) (entry 0 52 ∷ []) (block 1 ++ (block 2 ++ (block 4 ++ replicate 4 7)))
     (block (1 + 128 + 32) ++ (block 2 ++ (block (4 + 1 + 128) ++ replicate 4 7)))
     ∷ chained Open Cbcs (cryptSkip 1 1) (entry 0 52 ∷ []) (block 1 ++ (block 2 ++ (block 4 ++ replicate 4 7)))
-    (block (1 + 64 + 128) ++ (block 2 ++ (block (4 + 64 + 1) ++ replicate 4 7))) ∷ []
+    (block (1 + 64 + 128) ++ (block 2 ++ (block (4 + 64 + 1) ++ replicate 4 7)))
+    -- 0:0: a chain through every whole block, and nothing of a last part.
+    ∷ chained Lock Cbcs (cryptSkip 0 0) (entry 0 36 ∷ []) (block 1 ++ (block 2 ++ replicate 4 7))
+    (block (1 + 128 + 32) ++ (block (2 + 1 + 128) ++ replicate 4 7))
+    ∷ chained Open Cbcs (cryptSkip 0 0) (entry 0 36 ∷ []) (block 1 ++ (block 2 ++ replicate 4 7))
+    (block (1 + 64 + 128) ++ (block (2 + 64 + 1) ++ replicate 4 7)) ∷ []
 
 -- ---- What a definition makes of them, and what it should.
 

@@ -51,11 +51,14 @@ pub heldExamples : List Case
 heldExamples =
     -- cbcs 1:1: none of 2 clear bytes, a block from its second byte on, nothing of a skipped block, nor of a last part.
     is (heldThrough Cbcs (cryptSkip 1 1) (entry 2 40 ∷ [])) (replicate 2 0 ++ (span 0 16 ++ replicate 25 0))
+    -- cbcs 0:0: two whole blocks, and nothing of a last part.
+    ∷ is (heldThrough Cbcs (cryptSkip 0 0) (entry 2 40 ∷ [])) (replicate 2 0 ++ (span 0 16 ++ (span 0 16 ++ replicate 9 0)))
     -- cbc1: a block before and one behind 10 clear bytes.
     ∷ is (heldThrough Cbc1 (cryptSkip 0 0) (entry 0 16 ∷ entry 10 16 ∷ [])) (span 0 16 ++ (replicate 10 0 ++ (span 0 16 ++ (0 ∷ []))))
     -- cenc and cens hold nothing.
     ∷ is (heldThrough Cenc (cryptSkip 0 0) (entry 2 40 ∷ [])) (replicate 43 0)
-    ∷ is (heldThrough Cens (cryptSkip 1 1) (entry 2 40 ∷ [])) (replicate 43 0) ∷ []
+    ∷ is (heldThrough Cens (cryptSkip 1 1) (entry 2 40 ∷ [])) (replicate 43 0)
+    ∷ is (heldThrough Cens (cryptSkip 0 0) (entry 2 40 ∷ [])) (replicate 43 0) ∷ []
 
 pub held-examples-hold : Hold heldExamples
 unfolding heldExamples allMade allSaid heldAt inBlock inPlace place isCiphered inWholeBlock inCryptRun

@@ -6,5 +6,6 @@ pub mod Feeding
 pub mod Releasing
 pub mod Demand3
 pub mod Depends
+pub mod WholeBlocks
 pub mod Samples
 pub mod Numbers

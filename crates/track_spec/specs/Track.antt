@@ -185,12 +185,27 @@ unfoldable pub afterWriting : Parameters → List ℕ → List ℕ
 afterWriting p out =
     cond (eqb (answer (writeRows p (length out))) 0) (boxBytes p ++ drop (boxLength (p .protected) (p .«iv_size»)) out) out
 
--- ---- Worked examples: the box of document 01, "The sheet program".
+-- ---- Worked examples: the box of document 01, "The sheet program", and document 02, Ask 2.
+
+-- Boxes of protected tracks with a constant IV and with IVs of 16 bytes, in a version and with a pattern byte.
+abbrev constantBox : ℕ → ℕ → List ℕ
+constantBox version pattern =
+    0x00 ∷ 0x00 ∷ 0x00 ∷ 0x31 ∷ 0x74 ∷ 0x65 ∷ 0x6e ∷ 0x63 ∷ version ∷ 0x00 ∷ 0x00 ∷ 0x00 ∷ 0x00 ∷ pattern ∷ 0x01 ∷ 0x00
+    ∷ span 0 16 ++ (0x10 ∷ replicate 16 0xaa)
+
+abbrev ivBox : ℕ → ℕ → List ℕ
+ivBox version pattern =
+    0x00 ∷ 0x00 ∷ 0x00 ∷ 0x20 ∷ 0x74 ∷ 0x65 ∷ 0x6e ∷ 0x63 ∷ version ∷ 0x00 ∷ 0x00 ∷ 0x00 ∷ 0x00 ∷ pattern ∷ 0x01 ∷ 0x10
+    ∷ span 0 16
 
 abbrev sheetBox : List ℕ
-sheetBox =
-    0x00 ∷ 0x00 ∷ 0x00 ∷ 0x31 ∷ 0x74 ∷ 0x65 ∷ 0x6e ∷ 0x63 ∷ 0x01 ∷ 0x00 ∷ 0x00 ∷ 0x00 ∷ 0x00 ∷ 0x19 ∷ 0x01 ∷ 0x00
-    ∷ span 0 16 ++ (0x10 ∷ replicate 16 0xaa)
+sheetBox = constantBox 0x01 0x19
+
+-- What is answered under a code to 0:0 in version 0 and 1, to 1:0 in version 1, and to 0:1 in version 0 and 1.
+abbrev answersTo : List ℕ → (ℕ → ℕ → List ℕ) → List ℕ
+answersTo code box =
+    answer (readRows code (box 0 0x00)) ∷ answer (readRows code (box 1 0x00)) ∷ answer (readRows code (box 1 0x10))
+    ∷ answer (readRows code (box 0 0x01)) ∷ answer (readRows code (box 1 0x01)) ∷ []
 
 -- Version, pattern, protected flag, IV size, KID and constant IV.
 abbrev numbersOf : Parameters → List ℕ
@@ -202,7 +217,15 @@ examples =
     ∷ is (numbersOf (fields cbcs sheetBox)) (1 ∷ 1 ∷ 9 ∷ 1 ∷ 0 ∷ span 0 16 ++ replicate 16 0xaa)
     ∷ is (boxBytes (fields cbcs sheetBox)) sheetBox
     -- cenc has no pattern.
-    ∷ is (answer (readRows cenc sheetBox) ∷ []) (4 ∷ []) ∷ []
+    ∷ is (answer (readRows cenc sheetBox) ∷ []) (4 ∷ [])
+    -- "Either scheme with 0:0 may have version 0 or 1"; "crypt 0 with skip above 0 stays refusal 4", a pattern in version 0 3.
+    ∷ is (answersTo cens ivBox) (0 ∷ 0 ∷ 0 ∷ 3 ∷ 4 ∷ []) ∷ is (answersTo cbcs constantBox) (0 ∷ 0 ∷ 0 ∷ 3 ∷ 4 ∷ [])
+    -- cenc and cbc1 have 0:0 alone.
+    ∷ is (answersTo cenc ivBox) (0 ∷ 0 ∷ 4 ∷ 3 ∷ 4 ∷ []) ∷ is (answersTo cbc1 ivBox) (0 ∷ 0 ∷ 4 ∷ 3 ∷ 4 ∷ [])
+    -- 0:0 in version 0, 0:0 in version 1 and 1:0 are each written as they were read.
+    ∷ is (boxBytes (fields cbcs (constantBox 0 0x00))) (constantBox 0 0x00)
+    ∷ is (boxBytes (fields cbcs (constantBox 1 0x00))) (constantBox 1 0x00)
+    ∷ is (boxBytes (fields cbcs (constantBox 1 0x10))) (constantBox 1 0x10) ∷ []
 
 pub examples-hold : Hold examples
 unfolding examples allMade allSaid answer readRows known same frame.badFrame number badHead badFields allowed allowedFields allowedProtected
