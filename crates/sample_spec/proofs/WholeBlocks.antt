@@ -1,6 +1,6 @@
 -- A sample under 0:0 gets the answer and the bytes that it gets under 1:0.
-use mathlib.Core.Bool.{Bool, true, false, cond, _||_}
-use mathlib.Core.List.{List, [], _++_}
+use mathlib.Core.Bool.{Bool, true, cond, _||_}
+use mathlib.Core.List.{List, _++_}
 use mathlib.Core.Logic.{_⊎_, ⊎-elim}
 use mathlib.Core.Path.{_≡_, refl, sym, ap, _∙_}
 use Prim.Native.Nat.{ℕ}
@@ -19,7 +19,7 @@ use Rattle.track_spec.proofs.Fields.{constant-length}
 use Rattle.track_spec.proofs.Checking.{write-done}
 use Rattle.track_spec.proofs.RoundTrip.{accepted, write-read}
 use Rattle.subsample_spec.specs.Auxiliary.{badSize, entryCount, mapRead, ivRead, auxiliaryRows}
-use Rattle.sample_spec.specs.Sample.{Inputs, keyRows, keyIn, parametersOf, keyOf, mapOf, ivOf, sampleRows, answered, cipheredBy, sampleAfter}
+use Rattle.sample_spec.specs.Sample.{Inputs, keyRows, keyIn, parametersOf, keyOf, mapOf, ivOf, answered, cipheredBy, sampleAfter}
 use Rattle.sample_spec.specs.WholeBlocks.{oneToZero, underOneToZero, WholeBlocks, AsOneToZero}
 use Rattle.sample_spec.proofs.Tables.{box-done}
 use Rattle.scheme.specs.Layout.{patternOf, inCryptRun}

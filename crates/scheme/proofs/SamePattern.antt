@@ -1,5 +1,4 @@
 -- Two patterns that cipher the same blocks of a range: under them a sample becomes the same, and the same bytes are held.
-use mathlib.Core.Bool.{_&&_}
 use mathlib.Core.List.{List, [], _∷_}
 use mathlib.Core.Path.{_≡_, refl, ap, _∙_, fun-ext}
 use Prim.Native.Nat.{ℕ}
@@ -11,8 +10,8 @@ use Rattle.subsample_spec.specs.declared.SubsampleMap.{SubsampleMap}
 use Rattle.scheme.specs.declared.Pattern.{Pattern}
 use Rattle.scheme.specs.declared.Scheme.{Scheme}
 use Rattle.scheme.specs.declared.Scheme.the-variants.{Cenc, Cbc1, Cens, Cbcs}
-use Rattle.scheme.specs.Layout.{schemeOf, patternOf, inWholeBlock, inCryptRun, isCiphered, Entry, marks, mask}
-use Rattle.scheme.specs.WholeSample.{over, overEach, whole}
+use Rattle.scheme.specs.Layout.{patternOf, inCryptRun, isCiphered, Entry, marks, mask}
+use Rattle.scheme.specs.WholeSample.{overEach, whole}
 use Rattle.scheme.specs.Machine.{State, feedSample}
 use Rattle.scheme.specs.Held.{inBlock, heldAt}
 use Rattle.scheme.specs.Part.{entriesOf, ciphered, heldUnder, feedUnder}

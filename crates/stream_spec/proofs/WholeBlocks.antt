@@ -1,9 +1,9 @@
 -- A sample in pieces under 0:0 gets the replies and the bytes that it gets under 1:0.
-use mathlib.Core.Bool.{Bool, true, false, cond, not, _&&_, _||_}
+use mathlib.Core.Bool.{Bool, true, false, cond, not, _&&_}
 use mathlib.Core.List.{List, [], _∷_}
-use mathlib.Core.Path.{_≡_, refl, sym, ap, ap₂, _∙_}
+use mathlib.Core.Path.{_≡_, refl, ap, ap₂}
 use Prim.Native.Nat.{ℕ, _+_}
-use lib.Dec.{eqb, leb}
+use lib.Dec.{eqb}
 use lib.ListN.{length}
 use borrow.Author.Tests.{eqb-true}
 use Rattle.octets.specs.Answers.{answer}
@@ -12,7 +12,7 @@ use Rattle.track_spec.specs.declared.Parameters.{Parameters}
 use Rattle.scheme.specs.Machine.{State}
 use Rattle.scheme.proofs.SamePattern.{held-same, fed-same}
 use Rattle.sample_spec.specs.Sample.{Inputs, parametersOf, keyOf, mapOf, ivOf, sampleRows}
-use Rattle.sample_spec.specs.WholeBlocks.{oneToZero, underOneToZero, WholeBlocks, AsOneToZero}
+use Rattle.sample_spec.specs.WholeBlocks.{oneToZero, underOneToZero, WholeBlocks}
 use Rattle.sample_spec.proofs.WholeBlocks.{one-to-zero-checked, j-parameters, same-key, same-map, same-iv, same-blocks, as-one-to-zero-holds}
 use Rattle.stream_spec.specs.declared.Declared.{Declared}
 use Rattle.stream_spec.specs.declared.Progress.{Progress}

@@ -1,6 +1,6 @@
--- Document 01, "Numbers answered, in the order tried": for each call small inputs with the number that the document says, one for each
--- number that the call uses and for each two neighbours of the order that apply at once. Told with it are the lengths answered and the
--- bytes released.
+-- Document 01, "Numbers answered, in the order tried", and document 02, Ask 2: for each call small inputs with the number that the
+-- documents say, one for each number that the call uses and for each two neighbours of the order that apply at once. Told with it are the
+-- lengths answered and the bytes released.
 use mathlib.Core.List.{List, [], _∷_, _++_, map}
 use Prim.Native.Nat.{ℕ}
 use lib.ListN.{length, take, drop, replicate}
@@ -17,7 +17,7 @@ use Rattle.scheme.specs.Layout.{Entry, entry}
 use Rattle.sample_spec.specs.Sample.{Inputs, inputs, findKey, parametersOf, answered, readInputs}
 use Rattle.stream_spec.specs.declared.Stream.{Stream}
 use Rattle.stream_spec.specs.Stream.{progressOf, start, feed, end}
-use Rattle.stream_spec.specs.Samples.{boxOf, keysOf}
+use Rattle.stream_spec.specs.Samples.{boxWith, ivBox, constantBox, boxOf, keysOf}
 
 -- An input, and the number said of it.
 pub record Asked (A : Type 0) : Type 0 where
@@ -33,14 +33,7 @@ asked call qs = is (map (λ q. call (q .input)) qs) (map (λ q. q .number) qs)
 
 -- ---- What is handed in.
 
--- A box with a size field and a type: the eight bytes from the version to the IV size, KID 1 to 16, and what follows.
-abbrev pub boxWith : ℕ → List ℕ → List ℕ → List ℕ → List ℕ
-boxWith size kind fields after = 0 ∷ 0 ∷ 0 ∷ size ∷ kind ++ (fields ++ (span 1 16 ++ after))
-
--- cbcs 1:9 with a constant IV; an unprotected track.
-abbrev pub constantBox : List ℕ
-constantBox = boxWith 49 tenc (1 ∷ 0 ∷ 0 ∷ 0 ∷ 0 ∷ 25 ∷ 1 ∷ 0 ∷ []) (16 ∷ replicate 16 170)
-
+-- An unprotected track.
 abbrev pub clearBox : List ℕ
 clearBox = boxWith 32 tenc (0 ∷ 0 ∷ 0 ∷ 0 ∷ 0 ∷ 0 ∷ 0 ∷ 0 ∷ []) []
 
@@ -71,7 +64,10 @@ eight = replicate 8 0
 
 unfoldable pub boxes : List (Asked Given)
 boxes =
-    gives (ofBox cenc (boxOf 8) eight) 0 ∷ gives (ofBox cbcs constantBox []) 0 ∷ gives (ofBox cenc clearBox []) 0
+    gives (ofBox cenc (boxOf 8) eight) 0 ∷ gives (ofBox cbcs (constantBox 1 25) []) 0 ∷ gives (ofBox cenc clearBox []) 0
+    -- Document 02, Ask 2: "Either scheme with 0:0 may have version 0 or 1"
+    ∷ gives (ofBox cens (ivBox 0 0 8) eight) 0 ∷ gives (ofBox cens (ivBox 1 0 8) eight) 0
+    ∷ gives (ofBox cbcs (constantBox 0 0) []) 0 ∷ gives (ofBox cbcs (constantBox 1 0) []) 0
     -- "the scheme code isn't four bytes naming one of the four"
     ∷ gives (ofBox (take 3 cenc) (boxOf 8) eight) 1 ∷ gives (ofBox (cenc ++ (0 ∷ [])) (boxOf 8) eight) 1
     ∷ gives (ofBox (ascii "senc") (boxOf 8) eight) 1
@@ -83,12 +79,15 @@ boxes =
     ∷ gives (ofBox cenc (boxWith 32 tenc (2 ∷ 0 ∷ 0 ∷ 0 ∷ 0 ∷ 0 ∷ 1 ∷ 8 ∷ []) []) eight) 3
     ∷ gives (ofBox cenc (boxWith 32 tenc (0 ∷ 0 ∷ 0 ∷ 1 ∷ 0 ∷ 0 ∷ 1 ∷ 8 ∷ []) []) eight) 3
     ∷ gives (ofBox cenc (boxWith 32 tenc (0 ∷ 0 ∷ 0 ∷ 0 ∷ 1 ∷ 0 ∷ 1 ∷ 8 ∷ []) []) eight) 3
-    ∷ gives (ofBox cens (boxWith 32 tenc (0 ∷ 0 ∷ 0 ∷ 0 ∷ 0 ∷ 25 ∷ 1 ∷ 8 ∷ []) []) eight) 3
+    ∷ gives (ofBox cens (ivBox 0 25 8) eight) 3 ∷ gives (ofBox cens (ivBox 0 1 8) eight) 3 ∷ gives (ofBox cbcs (constantBox 0 1) []) 3
     -- "the fields aren't allowed as above, or the box is longer or shorter than they call for"
     ∷ gives (ofBox cenc (boxWith 32 tenc (0 ∷ 0 ∷ 0 ∷ 0 ∷ 0 ∷ 0 ∷ 1 ∷ 7 ∷ []) []) eight) 4
     ∷ gives (ofBox cenc (boxWith 33 tenc (0 ∷ 0 ∷ 0 ∷ 0 ∷ 0 ∷ 0 ∷ 1 ∷ 8 ∷ []) (0 ∷ [])) eight) 4
     ∷ gives (ofBox cbcs (boxWith 32 tenc (1 ∷ 0 ∷ 0 ∷ 0 ∷ 0 ∷ 25 ∷ 1 ∷ 0 ∷ []) []) []) 4
     ∷ gives (ofBox cbcs (boxWith 49 tenc (1 ∷ 0 ∷ 0 ∷ 0 ∷ 0 ∷ 25 ∷ 1 ∷ 0 ∷ []) (15 ∷ replicate 16 170)) []) 4
+    -- "crypt 0 with skip above 0 stays refusal 4"; cenc and cbc1 have no pattern
+    ∷ gives (ofBox cens (ivBox 1 1 8) eight) 4 ∷ gives (ofBox cbcs (constantBox 1 1) []) 4
+    ∷ gives (ofBox cenc (ivBox 1 16 8) eight) 4 ∷ gives (ofBox cbc1 (ivBox 1 16 16) (replicate 16 0)) 4
     -- 1 before 2, 2 before 3, 3 before 4
     ∷ gives (ofBox (ascii "senc") (take 31 (boxOf 8)) eight) 1
     ∷ gives (ofBox cenc (boxWith 32 cenc (2 ∷ 0 ∷ 0 ∷ 0 ∷ 0 ∷ 0 ∷ 1 ∷ 8 ∷ []) []) eight) 2
@@ -110,7 +109,7 @@ parametersWith code version crypt skip protected ivSize constant =
       «constant_iv» = record { 0 = constant };
     }
 
--- cenc with IVs of 8 bytes, cbc1, and cbcs 1:9.
+-- cenc with IVs of 8 bytes, cbc1, cbcs 1:9, and cbcs 0:0 in some version.
 abbrev pub cenc8 : Parameters
 cenc8 = parametersWith cenc 0 0 0 1 8 zeros
 
@@ -120,11 +119,17 @@ cbc1Track = parametersWith cbc1 0 0 0 1 16 zeros
 abbrev pub cbcsTrack : Parameters
 cbcsTrack = parametersWith cbcs 1 1 9 1 0 (replicate 16 170)
 
+abbrev pub wholeBlocksTrack : ℕ → Parameters
+wholeBlocksTrack version = parametersWith cbcs version 0 0 1 0 (replicate 16 170)
+
 unfoldable pub parameters : List (Asked Parameters)
 parameters =
     gives cenc8 0 ∷ gives cbc1Track 0 ∷ gives cbcsTrack 0 ∷ gives unprotected 0
+    ∷ gives (wholeBlocksTrack 0) 0 ∷ gives (wholeBlocksTrack 1) 0
+    ∷ gives (parametersWith cens 0 0 0 1 8 zeros) 0 ∷ gives (parametersWith cens 1 0 0 1 8 zeros) 0
     ∷ gives (parametersWith (ascii "senc") 0 0 0 1 8 zeros) 1
     ∷ gives (parametersWith cenc 2 0 0 1 8 zeros) 3 ∷ gives (parametersWith cens 0 1 9 1 8 zeros) 3
+    ∷ gives (parametersWith cens 0 0 1 1 8 zeros) 3 ∷ gives (parametersWith cens 1 0 1 1 8 zeros) 4
     -- "the writer refuses others as 4": a constant IV where none is called for
     ∷ gives (parametersWith cenc 0 0 0 1 7 zeros) 4 ∷ gives (parametersWith cenc 0 0 0 1 8 (replicate 16 170)) 4
     -- 1 before 3, 3 before 4
@@ -230,6 +235,7 @@ unsound =
     streamAt (parametersWith (ascii "senc") 0 0 0 1 8 zeros) 20 emptyMap 10 0
     ∷ streamAt (parametersWith cenc 2 0 0 1 8 zeros) 20 emptyMap 10 0
     ∷ streamAt (parametersWith cenc 0 0 0 1 7 zeros) 20 emptyMap 10 0
+    ∷ streamAt (parametersWith cbcs 1 0 1 1 0 zeros) 20 emptyMap 10 0
     -- "map and declared length meet 7 and 9 to 12, with no entries if unprotected"
     ∷ streamAt cenc8 16777217 emptyMap 10 0
     ∷ streamAt cenc8 64 (mapWith [] (replicate 64 1) 65) 10 0
@@ -241,7 +247,8 @@ unsound =
     ∷ streamAt cenc8 20 emptyMap 21 0
     ∷ streamAt cenc8 20 emptyMap 10 1
     ∷ streamAt cbc1Track 40 emptyMap 10 0
-    ∷ streamAt cbc1Track 40 emptyMap 10 11 ∷ []
+    ∷ streamAt cbc1Track 40 emptyMap 10 11
+    ∷ streamAt (wholeBlocksTrack 0) 40 emptyMap 20 0 ∷ []
 
 -- ---- The calls, each with what the document says of it.
 
@@ -257,6 +264,7 @@ unfoldable pub boxWriter : List Case
 boxWriter =
     asked (λ p. writeBox p 49 .answer) parameters
     ∷ is (written cenc8 32) (0 ∷ 32 ∷ []) ∷ is (written cbcsTrack 49) (0 ∷ 49 ∷ [])
+    ∷ is (written (wholeBlocksTrack 0) 49) (0 ∷ 49 ∷ []) ∷ is (written (wholeBlocksTrack 0) 48) (17 ∷ 0 ∷ [])
     ∷ is (written cenc8 31) (17 ∷ 0 ∷ []) ∷ is (written cbcsTrack 48) (17 ∷ 0 ∷ [])
     ∷ is (written (parametersWith cenc 0 0 0 1 7 zeros) 0) (4 ∷ 0 ∷ []) ∷ []
 
@@ -304,12 +312,14 @@ fed t k room = feed t (replicate k 0) room .answer ∷ feed t (replicate k 0) ro
 
 unfoldable pub feeding : List Case
 feeding =
-    is (map (λ t. feed t [] 0 .answer) unsound) (replicate 13 13)
-    ∷ is (map (λ t. feed t [] 0 .released) unsound) (replicate 13 0)
+    is (map (λ t. feed t [] 0 .answer) unsound) (replicate 15 13)
+    ∷ is (map (λ t. feed t [] 0 .released) unsound) (replicate 15 0)
     ∷ is (fed (streamAt cenc8 20 emptyMap 10 0) 10 10) (0 ∷ 10 ∷ [])
     ∷ is (fed (streamAt cenc8 20 emptyMap 10 0) 0 0) (0 ∷ 0 ∷ [])
     ∷ is (fed (streamAt cbc1Track 40 emptyMap 10 10) 5 0) (0 ∷ 0 ∷ [])
     ∷ is (fed (streamAt cbc1Track 40 emptyMap 10 10) 6 16) (0 ∷ 16 ∷ [])
+    ∷ is (fed (streamAt (wholeBlocksTrack 0) 40 emptyMap 20 4) 12 16) (0 ∷ 16 ∷ [])
+    ∷ is (fed (streamAt (wholeBlocksTrack 1) 40 emptyMap 32 0) 8 8) (0 ∷ 8 ∷ [])
     ∷ is (fed (streamAt cenc8 20 emptyMap 10 0) 11 20) (14 ∷ 0 ∷ [])
     ∷ is (fed (streamAt cenc8 20 emptyMap 10 0) 10 9) (15 ∷ 0 ∷ [])
     ∷ is (fed (streamAt cbc1Track 40 emptyMap 10 10) 6 15) (15 ∷ 0 ∷ [])
@@ -320,7 +330,7 @@ feeding =
 -- "the end 13 and 16": 13 before 16, as most of the records have not reached their length.
 unfoldable pub ending : List Case
 ending =
-    is (map (λ t. end t .answer) unsound) (replicate 13 13)
+    is (map (λ t. end t .answer) unsound) (replicate 15 13)
     ∷ is (end (streamAt cenc8 20 emptyMap 20 0) .answer ∷ end (streamAt cenc8 20 emptyMap 19 0) .answer ∷ []) (0 ∷ 16 ∷ []) ∷ []
 
 -- ---- The claim, for all of them.

@@ -1,4 +1,5 @@
--- Document 01, "Samples on both sides of a line": those marked [P], as one list, and how its cases are put in numbers.
+-- Document 01, "Samples on both sides of a line": those marked [P], and document 02, Ask 2, as one list, and how its cases are put in
+-- numbers.
 use mathlib.Core.Bool.{Bool, true, false}
 use mathlib.Core.List.{List, [], _∷_, _++_}
 use Prim.Native.Nat.{ℕ, suc}
@@ -7,15 +8,15 @@ use Rattle.octets.specs.Cases.{Case, is, span}
 use Rattle.modes_spec.specs.declared.Direction.the-variants.{Lock}
 use Rattle.modes_spec.specs.Modes.{counterAt}
 use Rattle.modes_spec.specs.Examples.{telling}
-use Rattle.track_spec.specs.Track.{cenc, cbc1, tenc, fields}
+use Rattle.track_spec.specs.Track.{cenc, cbc1, cens, cbcs, tenc, fields}
 use Rattle.subsample_spec.specs.Auxiliary.{emptyMap}
 use Rattle.scheme.specs.declared.Scheme.the-variants.{Cenc, Cbc1, Cens, Cbcs}
-use Rattle.scheme.specs.Layout.{Entry, entry, mask}
+use Rattle.scheme.specs.Layout.{schemeOf, patternOf, Entry, entry, mask}
 use Rattle.scheme.specs.WholeSample.{whole}
 use Rattle.scheme.specs.Examples.{cryptSkip}
-use Rattle.scheme.specs.Part.{protectedEntries, heldUnder}
+use Rattle.scheme.specs.Part.{protectedEntries, entriesOf, heldUnder}
 use Rattle.scheme.specs.Counters.{counterBlocks}
-use Rattle.sample_spec.specs.Sample.{inputs, answered}
+use Rattle.sample_spec.specs.Sample.{Inputs, inputs, parametersOf, mapOf, answered}
 use Rattle.stream_spec.specs.Demand3.{Call, Feeding, Reply, account}
 
 -- ---- How cases are put in numbers.
@@ -36,9 +37,20 @@ unfoldable pub told : List Reply → List ℕ
 told [] = []
 told (r ∷ rs) = r .answer ∷ r .released ∷ told rs
 
--- A box in version 0 with some IV size, KID 1 to 16; the key record for it; auxiliary data with a zero IV of that size.
+-- A box with a size field and a type: the eight bytes from the version to the IV size, KID 1 to 16, and what follows.
+abbrev pub boxWith : ℕ → List ℕ → List ℕ → List ℕ → List ℕ
+boxWith size kind fields after = 0 ∷ 0 ∷ 0 ∷ size ∷ kind ++ (fields ++ (span 1 16 ++ after))
+
+-- Of a protected track in some version and with a pattern byte: with an IV size, or with a constant IV.
+abbrev pub ivBox : ℕ → ℕ → ℕ → List ℕ
+ivBox version pattern ivSize = boxWith 32 tenc (version ∷ 0 ∷ 0 ∷ 0 ∷ 0 ∷ pattern ∷ 1 ∷ ivSize ∷ []) []
+
+abbrev pub constantBox : ℕ → ℕ → List ℕ
+constantBox version pattern = boxWith 49 tenc (version ∷ 0 ∷ 0 ∷ 0 ∷ 0 ∷ pattern ∷ 1 ∷ 0 ∷ []) (16 ∷ replicate 16 170)
+
+-- In version 0 without a pattern; the key record for it; auxiliary data with a zero IV of that size.
 abbrev pub boxOf : ℕ → List ℕ
-boxOf ivSize = 0 ∷ 0 ∷ 0 ∷ 32 ∷ tenc ++ (0 ∷ 0 ∷ 0 ∷ 0 ∷ 0 ∷ 0 ∷ 1 ∷ ivSize ∷ span 1 16)
+boxOf ivSize = ivBox 0 0 ivSize
 
 abbrev pub keysOf : List ℕ
 keysOf = span 1 16 ++ span 101 16
@@ -51,7 +63,24 @@ answeredFor code ivSize after n = answered (inputs code (boxOf ivSize) (replicat
 abbrev pub fed : ℕ → Call
 fed n = Feeding (replicate n 0) (replicate 40 0)
 
+-- What is answered with some inputs to a sample of n bytes, and the bytes that are ciphered.
+abbrev pub answeredAndCiphered : Inputs → ℕ → List ℕ
+answeredAndCiphered i n =
+    answered i n ∷ marked 0 (mask (schemeOf (i .code)) (patternOf (parametersOf i)) (entriesOf (parametersOf i) (mapOf i) n))
+
 -- ---- The samples.
+
+-- Document 02, Ask 2, of a code and a box with 0:0: "0:0 ciphers every whole block of a range". The IV comes before the entries.
+abbrev pub wholeBlocks : List ℕ → List ℕ → List ℕ → List Case
+wholeBlocks code box iv =
+    -- No entries, 20 bytes and 64 bytes.
+    is (answeredAndCiphered (inputs code box iv keysOf) 20) (0 ∷ span 0 16)
+    ∷ is (answeredAndCiphered (inputs code box iv keysOf) 64) (0 ∷ span 0 64)
+    -- A range of 63 bytes.
+    ∷ is (answeredAndCiphered (inputs code box (iv ++ (0 ∷ 1 ∷ 0 ∷ 0 ∷ 0 ∷ 0 ∷ 0 ∷ 63 ∷ [])) keysOf) 63) (0 ∷ span 0 48)
+    -- Entries (3,20) (0,41), of which the first ends in mid-block.
+    ∷ is (answeredAndCiphered (inputs code box (iv ++ (0 ∷ 2 ∷ 0 ∷ 3 ∷ 0 ∷ 0 ∷ 0 ∷ 20 ∷ 0 ∷ 0 ∷ 0 ∷ 0 ∷ 0 ∷ 41 ∷ [])) keysOf) 64)
+    (0 ∷ span 3 16 ++ span 23 32) ∷ []
 
 -- With no entries written, the entries of a sample of n bytes.
 abbrev pub none : ℕ → List Entry
@@ -84,4 +113,12 @@ samples =
     ∷ is (answeredFor cenc 8 (0 ∷ 2 ∷ 0 ∷ 1 ∷ 0 ∷ 0 ∷ 0 ∷ 0 ∷ 0 ∷ 0 ∷ 0 ∷ 0 ∷ 0 ∷ 0 ∷ []) 1) (10 ∷ [])
     -- 9. cbc1 entry (0,32): 0; (0,31): 12.
     ∷ is (answeredFor cbc1 16 (0 ∷ 1 ∷ 0 ∷ 0 ∷ 0 ∷ 0 ∷ 0 ∷ 32 ∷ []) 32) (0 ∷ [])
-    ∷ is (answeredFor cbc1 16 (0 ∷ 1 ∷ 0 ∷ 0 ∷ 0 ∷ 0 ∷ 0 ∷ 31 ∷ []) 31) (12 ∷ []) ∷ []
+    ∷ is (answeredFor cbc1 16 (0 ∷ 1 ∷ 0 ∷ 0 ∷ 0 ∷ 0 ∷ 0 ∷ 31 ∷ []) 31) (12 ∷ [])
+    -- Document 02, Ask 2: 0:0 in both schemes and both versions.
+    ∷ wholeBlocks cens (ivBox 0 0 8) (replicate 8 0) ++ (wholeBlocks cens (ivBox 1 0 8) (replicate 8 0)
+    ++ (wholeBlocks cbcs (constantBox 0 0) [] ++ (wholeBlocks cbcs (constantBox 1 0) []
+    -- 0:1, in version 0 and in version 1.
+    ++ (is (answered (inputs cens (ivBox 0 1 8) (replicate 8 0) keysOf) 20 ∷ []) (3 ∷ [])
+    ∷ is (answered (inputs cens (ivBox 1 1 8) (replicate 8 0) keysOf) 20 ∷ []) (4 ∷ [])
+    ∷ is (answered (inputs cbcs (constantBox 0 1) [] keysOf) 20 ∷ []) (3 ∷ [])
+    ∷ is (answered (inputs cbcs (constantBox 1 1) [] keysOf) 20 ∷ []) (4 ∷ []) ∷ []))))
