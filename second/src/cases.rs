@@ -90,15 +90,18 @@ impl Random {
 const CODES: [[u8; 4]; 4] = [*b"cenc", *b"cbc1", *b"cens", *b"cbcs"];
 
 /// Every kind of accepted box: code, version, protected flag, IV size. The protected ones come first.
-const KINDS: [(&[u8; 4], u8, u8, u8); 17] = [
+const KINDS: [(&[u8; 4], u8, u8, u8); 20] = [
     (b"cenc", 0, 1, 8),
     (b"cenc", 0, 1, 16),
     (b"cenc", 1, 1, 8),
     (b"cenc", 1, 1, 16),
     (b"cbc1", 0, 1, 16),
     (b"cbc1", 1, 1, 16),
+    (b"cens", 0, 1, 8),
+    (b"cens", 0, 1, 16),
     (b"cens", 1, 1, 8),
     (b"cens", 1, 1, 16),
+    (b"cbcs", 0, 1, 0),
     (b"cbcs", 1, 1, 0),
     (b"cenc", 0, 0, 0),
     (b"cenc", 1, 0, 0),
@@ -110,7 +113,7 @@ const KINDS: [(&[u8; 4], u8, u8, u8); 17] = [
     (b"cbcs", 1, 0, 0),
 ];
 
-const PROTECTED_KINDS: usize = 9;
+const PROTECTED_KINDS: usize = 12;
 
 /// Accepted parameters of one kind; pattern, KID and constant IV are random.
 fn parameters(random: &mut Random, kind: usize) -> Parameters {
@@ -123,7 +126,9 @@ fn parameters(random: &mut Random, kind: usize) -> Parameters {
         kid: random.array(),
         ..Parameters::REFUSED
     };
-    if protected == 1 && matches!(code, b"cens" | b"cbcs") {
+    // In version 0 the pattern is 0:0, in version 1 sometimes.
+    let patterned = version == 1 && protected == 1 && matches!(code, b"cens" | b"cbcs");
+    if patterned && !random.once_in(4) {
         parameters.crypt = random.pick(&[1, 1, 1, 2, 3, 5, 14, 15]);
         parameters.skip = random.pick(&[0, 0, 1, 1, 2, 9, 9, 14, 15]);
     }

@@ -116,11 +116,9 @@ fn protected_ranges(map: &Map, length: usize) -> Vec<Range<usize>> {
 /// The parts of a protected range that are ciphered: in cenc all of it, in cbc1 its whole blocks, in
 /// cens and cbcs those of its whole blocks that the pattern names.
 fn ciphered_runs(inputs: &Inputs, range: Range<usize>) -> impl Iterator<Item = Range<usize>> {
-    let (length, crypt, skip) = (
-        range.len(),
-        16 * usize::from(inputs.parameters.crypt),
-        16 * usize::from(inputs.parameters.skip),
-    );
+    let length = range.len();
+    let (crypt, skip) = inputs.parameters.pattern();
+    let (crypt, skip) = (16 * usize::from(crypt), 16 * usize::from(skip));
     let (run, step, clear) = match inputs.scheme {
         Scheme::Cenc => (length, length, 0),
         Scheme::Cbc1 => (length, length, length % 16),

@@ -242,10 +242,11 @@ impl Walk {
             record.map.written().iter().map(both).collect()
         };
         coming.reverse();
+        let (crypt, skip) = parameters.pattern();
         let mut walk = Walk {
             scheme: parameters.check().expect("sound parameters"),
-            crypt: parameters.crypt.into(),
-            skip: parameters.skip.into(),
+            crypt: crypt.into(),
+            skip: skip.into(),
             coming,
             clear: 0,
             range: 0,

@@ -61,6 +61,15 @@ impl Parameters {
         self.protected == 1 && self.iv_size == 0
     }
 
+    /// In cens and cbcs: how many blocks of a range are ciphered, and how many then passed over.
+    pub fn pattern(&self) -> (u8, u8) {
+        match (self.crypt, self.skip) {
+            // 02, Ask 2: "0:0 ciphers every whole block of a range, as 1:0 does".
+            (0, 0) => (1, 0),
+            pattern => pattern,
+        }
+    }
+
     /// Refusals 1, 3 and 4; the scheme if none applies.
     pub fn check(&self) -> Result<Scheme, u8> {
         let scheme = Scheme::named(&self.code).ok_or(1)?;
@@ -83,8 +92,13 @@ impl Parameters {
     }
 }
 
+/// Whether cens and cbcs know the pattern. With crypt 0 only skip 0 is one.
 fn is_pattern((crypt, skip): (u8, u8)) -> bool {
-    (1..=15).contains(&crypt) && skip <= 15
+    match crypt {
+        0 => skip == 0,
+        1..=15 => skip <= 15,
+        _ => false,
+    }
 }
 
 /// Reads a box under a scheme's code. Refusals 1 to 4.

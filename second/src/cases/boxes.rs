@@ -72,7 +72,7 @@ fn edge_fields(random: &mut Random) -> String {
     bytes.extend([0, 0, 0, random.pick(&[0, 0, 0, 0, 0, 0, 0, 1])]);
     bytes.push(match random.below(3) {
         0 => 0,
-        1 => random.pick(&[0x01, 0x0f, 0x10, 0x19, 0x1f, 0xf0, 0xff]),
+        1 => random.pick(&[0x01, 0x09, 0x0f, 0x10, 0x19, 0x1f, 0xf0, 0xff]),
         _ => random.byte(),
     });
     bytes.extend([
@@ -99,11 +99,12 @@ fn several_faults(random: &mut Random) -> String {
     box_line(&code, &bytes)
 }
 
-/// One fault in a code or a box.
+/// One fault in a code or a box; crypt 0 with a skip is among them.
 pub fn damage(random: &mut Random, code: &mut Vec<u8>, bytes: &mut Vec<u8>) {
-    match random.below(6) {
+    match random.below(7) {
         0 => change_length(random, bytes),
         1 => *code = random_code(random),
+        2 if bytes.len() > 13 => bytes[13] = random.within(1, 15) as u8,
         _ if bytes.is_empty() => {}
         _ => {
             let place = random.below(bytes.len().min(16));
@@ -179,7 +180,7 @@ fn write_line(random: &mut Random, p: &Parameters) -> String {
 fn near_write(random: &mut Random) -> String {
     let mut p = any_parameters(random);
     for _ in 0..random.below(4) {
-        match random.below(8) {
+        match random.below(9) {
             0 => p.version = random.pick(&[0, 1, 2, 255]),
             1 => p.crypt = small_or_any(random),
             2 => p.skip = small_or_any(random),
@@ -187,6 +188,7 @@ fn near_write(random: &mut Random) -> String {
             4 => p.iv_size = random.pick(&[0, 7, 8, 9, 15, 16, 17, 255]),
             5 => p.constant[random.below(16)] ^= 1 << random.below(8),
             6 => p.code = random.pick(&CODES),
+            7 => (p.crypt, p.skip) = (0, random.below(17) as u8),
             _ => {
                 let place = random.below(4);
                 p.code[place] = random.other_byte(p.code[place]);

@@ -241,7 +241,7 @@ fn position(random: &mut Random, entries: &[Entry], length: u64) -> u64 {
 /// A change that mostly makes a record unsound.
 fn fault(random: &mut Random, record: &mut Record) {
     let p = &mut record.parameters;
-    match random.below(16) {
+    match random.below(17) {
         0 => p.code = random.pick(&CODES),
         1 => p.code[random.below(4)] ^= 1 << random.below(8),
         2 => p.version = random.pick(&[0, 1, 2, 255]),
@@ -250,11 +250,12 @@ fn fault(random: &mut Random, record: &mut Record) {
         5 => p.protected = random.pick(&[0, 1, 2]),
         6 => p.iv_size = random.pick(&[0, 8, 16, 17]),
         7 => p.constant[random.below(16)] ^= 1,
-        8 => record.length = near(random, record.length, LONGEST_SAMPLE + 1),
-        9 => record.map.count = near(random, record.map.count, 65),
-        10 => record.map.entries[0] = Entry::ZERO,
-        11 => record.map.entries[0].protected ^= random.pick(&[1, 16]),
-        12 => record.position = near(random, record.position, record.length.wrapping_add(1)),
+        8 => (p.crypt, p.skip) = (0, random.pick(&[1, 9, 15])),
+        9 => record.length = near(random, record.length, LONGEST_SAMPLE + 1),
+        10 => record.map.count = near(random, record.map.count, 65),
+        11 => record.map.entries[0] = Entry::ZERO,
+        12 => record.map.entries[0].protected ^= random.pick(&[1, 16]),
+        13 => record.position = near(random, record.position, record.length.wrapping_add(1)),
         _ => record.held_count = near(random, record.held_count, 16),
     }
 }
