@@ -139,7 +139,9 @@ fn longest() -> Result<String, String> {
         (b"cbc1", 0, 0, 16),
         (b"cens", 2, 1, 8),
         (b"cens", 1, 9, 16),
+        (b"cens", 0, 0, 16),
         (b"cbcs", 1, 9, 0),
+        (b"cbcs", 0, 0, 0),
     ] {
         for entries in [0, MAX_ENTRIES] {
             for calls in [LOCK, OPEN] {
