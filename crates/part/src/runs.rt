@@ -52,24 +52,21 @@ fn whole_run(n: usize, o: usize) -> Run
     }
 }
 
-// The run of crypt blocks or of skip blocks, or what is left after the whole blocks; under 0:0 every whole block is a crypt block.
+// The run of crypt blocks or of skip blocks, or what is left after the whole blocks; 0:0 ciphers every whole block.
 fn pattern_run(pattern: Pattern, n: usize, o: usize) -> Run
     requires { ⌜ (o < n) × (n < 2 ^ 32) ⌝ }
     ensures { λ r. ⌜ (RunAt Cens pattern n o (r .ciphered) (r .end)) × (RunAt Cbcs pattern n o (r .ciphered) (r .end)) ⌝ }
 {
+    let crypt = pattern.crypt as usize;
+    let period = crypt + pattern.skip as usize;
+    if period == 0 {
+        return whole_run(n, o);
+    }
     let whole = n / ModeBlock::SIZE * ModeBlock::SIZE;
     if whole <= o {
         return Run {
             ciphered: false,
             end: n,
-        };
-    }
-    let crypt = pattern.crypt as usize;
-    let period = crypt + pattern.skip as usize;
-    if period == 0 {
-        return Run {
-            ciphered: true,
-            end: whole,
         };
     }
     let block = o / ModeBlock::SIZE;

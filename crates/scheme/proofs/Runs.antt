@@ -1,6 +1,6 @@
 -- The runs of a range.
-use mathlib.Core.Path.{_≡_, refl, ap, _∙_}
-use mathlib.Core.Bool.{Bool, true, false, _&&_}
+use mathlib.Core.Path.{_≡_, refl, sym, ap, _∙_}
+use mathlib.Core.Bool.{Bool, true, false, _&&_, and-true}
 use Prim.Native.Nat.{ℕ, _+_, _-_, _*_, _/_, _%_, _≤_, _<_, min}
 use native.Mathlib.Nat.{mod-eq-of-lt, mul-add-mod-self-left, div-add-mod, mod-le, mod-lt}
 use native.Mathlib.Omega.{arith}
@@ -68,17 +68,19 @@ module _ (pattern : Pattern) (n o : ℕ) (l : o < n) (w : n / 16 * 16 ≤ o) whe
         freed = λ e f. unheld (h n ∙ rw (out n (omega arith))) f;
       }
 
--- 0:0: the whole blocks, as one run
-pub run-every : (pattern : Pattern) (n o : ℕ) → period pattern ≡ 0 → o < n / 16 * 16 → (s : Scheme)
-    → ((x : ℕ) → isCiphered s pattern n x ≡ (inWholeBlock n x) && (inCryptRun pattern x)) → RunAt s pattern n o true (n / 16 * 16)
-unfolding inWholeBlock
-run-every pattern n o e l s h =
+-- 0:0: the runs of cbc1
+pub run-every : (pattern : Pattern) (n o e : ℕ) (b : Bool) → period pattern ≡ 0 → RunAt Cbc1 pattern n o b e → (s : Scheme)
+    → ((x : ℕ) → isCiphered s pattern n x ≡ (inWholeBlock n x) && (inCryptRun pattern x)) → RunAt s pattern n o b e
+unfolding isCiphered modeOf
+run-every pattern n o e b z r s h =
+    let every : (x : ℕ) → isCiphered s pattern n x ≡ inWholeBlock n x =
+    λ x. h x ∙ rw (every-block pattern x z) (and-true (inWholeBlock n x)) in
     record {
-      past = l;
-      within = omega arith;
-      same = λ x a b. h x ∙ rw (lt-ltb (x / 16) (n / 16) (omega arith), every-block pattern x e);
-      aligned = λ e f. omega arith;
-      freed = λ e f. omega arith;
+      past = r .past;
+      within = r .within;
+      same = λ x l u. every x ∙ r .same x l u;
+      aligned = λ k f. r .aligned refl f;
+      freed = λ k f. r .freed refl (sym (every e) ∙ f);
     }
 
 -- the blocks of one turn of the pattern: f is its first block's number

@@ -67,9 +67,7 @@ counterExamples =
     -- cens: a last part shorter than 16 stays clear, and is not padded.
     ∷ counted Cens (cryptSkip 2 1) (entry 0 24 ∷ []) (replicate 24 0) (span 0 16 ++ replicate 8 0)
     -- The pattern starts anew in each range, and the counter goes on.
-    ∷ counted Cens (cryptSkip 1 1) (entry 0 16 ∷ entry 0 32 ∷ []) (replicate 48 0) (span 0 32 ++ replicate 16 0)
-    -- 0:0: every whole block of a range, and nothing of a last part; the counter goes on with the next range's first block.
-    ∷ counted Cens (cryptSkip 0 0) (entry 0 20 ∷ entry 4 32 ∷ []) (replicate 56 0) (span 0 16 ++ (replicate 8 0 ++ span 16 32)) ∷ []
+    ∷ counted Cens (cryptSkip 1 1) (entry 0 16 ∷ entry 0 32 ∷ []) (replicate 48 0) (span 0 32 ++ replicate 16 0) ∷ []
 
 -- ---- Chain schemes.
 
@@ -90,8 +88,15 @@ cbcsExamples =
     ∷ chained Lock Cbcs (cryptSkip 1 1) (entry 0 52 ∷ []) (block 1 ++ (block 2 ++ (block 4 ++ replicate 4 7)))
     (block (1 + 128 + 32) ++ (block 2 ++ (block (4 + 1 + 128) ++ replicate 4 7)))
     ∷ chained Open Cbcs (cryptSkip 1 1) (entry 0 52 ∷ []) (block 1 ++ (block 2 ++ (block 4 ++ replicate 4 7)))
-    (block (1 + 64 + 128) ++ (block 2 ++ (block (4 + 64 + 1) ++ replicate 4 7)))
-    -- 0:0: a chain through every whole block, and nothing of a last part.
+    (block (1 + 64 + 128) ++ (block 2 ++ (block (4 + 64 + 1) ++ replicate 4 7))) ∷ []
+
+-- ---- 0:0: every whole block of a range, and nothing of a last part.
+
+unfoldable pub wholeBlockExamples : List Example
+wholeBlockExamples =
+    -- cens: the counter goes on with the next range's first block.
+    counted Cens (cryptSkip 0 0) (entry 0 20 ∷ entry 4 16 ∷ []) (replicate 40 0) (span 0 16 ++ (replicate 8 0 ++ span 16 16))
+    -- cbcs: a chain through all blocks.
     ∷ chained Lock Cbcs (cryptSkip 0 0) (entry 0 36 ∷ []) (block 1 ++ (block 2 ++ replicate 4 7))
     (block (1 + 128 + 32) ++ (block (2 + 1 + 128) ++ replicate 4 7))
     ∷ chained Open Cbcs (cryptSkip 0 0) (entry 0 36 ∷ []) (block 1 ++ (block 2 ++ replicate 4 7))

@@ -12,7 +12,7 @@ use Rattle.scheme.specs.declared.Pattern.{Pattern}
 use Rattle.scheme.specs.declared.Scheme.{Scheme}
 use Rattle.scheme.specs.declared.Scheme.the-variants.{Cenc, Cbc1, Cens, Cbcs}
 use Rattle.scheme.specs.Layout.{Entry, inWholeBlock, inCryptRun, isCiphered, tabulate, rangeMarks, marks, mask, chosen, replaced}
-use Rattle.scheme.specs.Examples.{Example, counterExamples, cbc1Examples, cbcsExamples, madeBy, results}
+use Rattle.scheme.specs.Examples.{Example, counterExamples, cbc1Examples, cbcsExamples, wholeBlockExamples, madeBy, results}
 
 -- f over the marked bytes, taken as one run; every other byte stays.
 unfoldable pub over : (List ℕ → List ℕ) → List Bool → List ℕ → List ℕ
@@ -53,3 +53,8 @@ pub cbcs-examples-hold : madeBy wholly cbcsExamples ≡ results cbcsExamples
 unfolding cbcsExamples madeBy whole over overEach mask marks rangeMarks tabulate isCiphered inWholeBlock inCryptRun chosen replaced cbc cbcBlocks
     blockOut blockChain xors _⊕_
 cbcs-examples-hold = refl
+
+pub whole-block-examples-hold : madeBy wholly wholeBlockExamples ≡ results wholeBlockExamples
+unfolding wholeBlockExamples madeBy whole over overEach mask marks rangeMarks tabulate isCiphered inWholeBlock inCryptRun chosen replaced ctr
+    streamByte counterAt number digits cbc cbcBlocks blockOut blockChain xors _⊕_
+whole-block-examples-hold = refl

@@ -1,7 +1,7 @@
 -- the place where the fields are allowed and the length that they call for is known
-use mathlib.Core.Path.{sym, _∙_}
+use mathlib.Core.Path.{_≡_, sym, _∙_}
 use borrow.Author.Tests.{eq-eqb, ne-eqb, not-true, not-false}
-use Rattle.track_spec.specs.Track.{badFields}
+use Rattle.track_spec.specs.Track.{boxLength, badFields}
 use borrow.Author.Needs.{needs}
 use Rattle.track.proofs.bad_fields.Statement.{statement}
 use Rattle.track.proofs.bad_fields.Tie as tie
@@ -17,9 +17,11 @@ returns-2 : tie.Need-returns-2
 unfolding badFields
 returns-2 c =
     let s = c .before in
+    let p = s .before .before .before .before .args .p in
+    let long : s .box-length .result ≡ boxLength (p .protected) (p .«iv_size») = s .box-length .ensures in
     rw (
       sym (s .before .before .allowed .ensures) ∙ not-false _ (s .before .if1 .left),
-      ne-eqb _ _ (λ e. c .if2 .taken (e ∙ sym (s .box-length .ensures))),
+      ne-eqb _ _ (λ e. c .if2 .taken (e ∙ sym long)),
     )
 
 returns-3 : tie.Need-returns-3
