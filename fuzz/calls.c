@@ -91,11 +91,12 @@ static const struct kind {
     uint8_t version, protected, iv_size;
 } kinds[] = {
     {"cenc", 0, 1, 8}, {"cenc", 0, 1, 16}, {"cenc", 1, 1, 8}, {"cenc", 1, 1, 16}, {"cbc1", 0, 1, 16}, {"cbc1", 1, 1, 16},
-    {"cens", 1, 1, 8}, {"cens", 1, 1, 16}, {"cbcs", 1, 1, 0}, {"cbcs", 1, 1, 0},  {"cenc", 0, 0, 0},  {"cenc", 1, 0, 0},
-    {"cbc1", 0, 0, 0}, {"cbc1", 1, 0, 0},  {"cens", 0, 0, 0}, {"cens", 1, 0, 0},  {"cbcs", 0, 0, 0},  {"cbcs", 1, 0, 0},
+    {"cens", 0, 1, 8}, {"cens", 0, 1, 16}, {"cens", 1, 1, 8}, {"cens", 1, 1, 16}, {"cbcs", 0, 1, 0},  {"cbcs", 1, 1, 0},
+    {"cbcs", 1, 1, 0}, {"cbcs", 1, 1, 0},  {"cenc", 0, 0, 0}, {"cenc", 1, 0, 0},  {"cbc1", 0, 0, 0},  {"cbc1", 1, 0, 0},
+    {"cens", 0, 0, 0}, {"cens", 1, 0, 0},  {"cbcs", 0, 0, 0}, {"cbcs", 1, 0, 0},
 };
 
-enum { PROTECTED_KINDS = 10, KINDS = sizeof kinds / sizeof *kinds };
+enum { PROTECTED_KINDS = 14, KINDS = sizeof kinds / sizeof *kinds };
 
 static void make_box(const struct kind *kind) {
     static const uint8_t crypts[] = {1, 1, 1, 2, 5, 14, 15}, skips[] = {0, 0, 1, 2, 9, 9, 15};
@@ -107,7 +108,8 @@ static void make_box(const struct kind *kind) {
     put(box, 4, length);
     memcpy(box + 4, "tenc", 4);
     box[8] = kind->version;
-    if (kind->protected == 1 && kind->code[3] == 's') {
+    /* In version 0 the pattern is 0:0, in version 1 sometimes. */
+    if (kind->version == 1 && kind->protected == 1 && kind->code[3] == 's' && !once_in(4)) {
         box[13] = (uint8_t)(PICK(crypts) << 4);
         box[13] |= PICK(skips);
     }

@@ -1,4 +1,4 @@
--- Document 01, "Which bytes are ciphered, and how": for each byte of a sample, whether it is ciphered.
+-- Document 01, "Which bytes are ciphered, and how", and document 02, Ask 2: for each byte of a sample, whether it is ciphered.
 use mathlib.Core.Bool.{Bool, true, false, cond, _&&_}
 use mathlib.Core.List.{List, [], _∷_, _++_}
 use Prim.Native.Nat.{ℕ, zero, suc, _+_, _/_, _%_}

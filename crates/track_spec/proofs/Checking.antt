@@ -9,7 +9,7 @@ use borrow.Author.Tests.{not-false}
 use Rattle.octets.specs.Answers.{answer}
 use Rattle.octets.proofs.Answers.{Refusals, none, more, done-head, done-tail, room-refused, room-short, room-enough, size-fits}
 use Rattle.track_spec.specs.declared.Parameters.{Parameters}
-use Rattle.track_spec.specs.Track.{known, allowed, boxLength, readRows, parameterRows, writeRows, writeBox}
+use Rattle.track_spec.specs.Track.{allowed, boxLength, readRows, parameterRows, writeRows, writeBox}
 
 pub read-refusals : (code box : List ℕ) → Refusals (readRows code box)
 unfolding readRows
@@ -18,9 +18,6 @@ read-refusals code box = more (lit< tt) (more (lit< tt) (more (lit< tt) (more (l
 module _ (p : Parameters) where
   pub parameter-refusals : Refusals (parameterRows p)
   parameter-refusals = more (lit< tt) (more (lit< tt) (more (lit< tt) none))
-
-  pub check-known : answer (parameterRows p) ≡ 0 → known (p .code) ≡ true
-  check-known h = not-false _ (done-head 1 _ _ (omega arith) h)
 
   pub check-allowed : answer (parameterRows p) ≡ 0 → allowed p ≡ true
   check-allowed h = not-false _ (done-head 4 _ _ (omega arith) (done-tail 3 _ _ (omega arith) (done-tail 1 _ _ (omega arith) h)))

@@ -1,4 +1,5 @@
--- Document 01, "The track box": the four scheme codes, the parameters that are allowed, the box read and written.
+-- Document 01, "The track box", and document 02, Ask 2: the four scheme codes, the parameters that are allowed, the box read and
+-- written.
 use mathlib.Core.Bool.{Bool, cond, not, _&&_, _||_}
 use mathlib.Core.List.{List, [], _∷_, _++_}
 use mathlib.Core.Path.{_≡_, refl}
