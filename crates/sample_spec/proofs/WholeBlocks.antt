@@ -34,10 +34,10 @@ fields-allowed code ivSize crypt skip s h =
     ⊎-elim (λ e. rw e (rw (&&-left (eightOrSixteen ivSize) (patternOrNone crypt skip) (rw e at h))))
     (λ e. rw e (rw (&&-left (eqb ivSize 0) (patternOrNone crypt skip) (rw e at h)))) s
 
-one-to-zero-allowed : (p : Parameters) → (p .code ≡ cens) ⊎ (p .code ≡ cbcs) → p .protected ≡ 1 → allowed p ≡ true
+allowed-as-well : (p : Parameters) → (p .code ≡ cens) ⊎ (p .code ≡ cbcs) → p .protected ≡ 1 → allowed p ≡ true
     → allowed (oneToZero p) ≡ true
 unfolding allowed
-one-to-zero-allowed p s one h =
+allowed-as-well p s one h =
     let a : Bool = hasConstant (p .protected) (p .«iv_size») || same (p .«constant_iv» .0) zeros in
     let b : Bool = allowedFields (p .code) (p .protected) (p .«iv_size») (p .crypt) (p .skip) in
     rw (&&-left a b h, one) (fields-allowed (p .code) (p .«iv_size») (p .crypt) (p .skip) s (rw one at (&&-right a b h)))
@@ -53,45 +53,46 @@ module _ (i : Inputs) (w : WholeBlocks i) where
   j = underOneToZero i
 
   -- the box with 1:0 is written and read again
-  q-held : Held q
+  one-to-zero-held : Held q
   unfolding parametersOf fields fieldsFrom
-  q-held = record { kid = filled-length 16 _; constant = constant-length 12 (i .code) 0 (i .box) }
+  one-to-zero-held = record { kid = filled-length 16 _; constant = constant-length 12 (i .code) 0 (i .box) }
 
-  q-allowed : allowed q ≡ true
+  one-to-zero-allowed : allowed q ≡ true
   unfolding parametersOf fields fieldsFrom
-  q-allowed = one-to-zero-allowed p (w .scheme) (w .protected) (accepted (i .code) (i .box) (w .accepted) .permitted)
+  one-to-zero-allowed = allowed-as-well p (w .scheme) (w .protected) (accepted (i .code) (i .box) (w .accepted) .permitted)
 
   pub one-to-zero-checked : answer (parameterRows q) ≡ 0
   unfolding answer parametersOf fields fieldsFrom
-  one-to-zero-checked = rw (accepted (i .code) (i .box) (w .accepted) .known-code, q-allowed)
+  one-to-zero-checked = rw (accepted (i .code) (i .box) (w .accepted) .known-code, one-to-zero-allowed)
 
   box-read : readBox (i .code) (boxBytes q) ≡ record { answer = 0; parameters = q }
   unfolding parametersOf fields fieldsFrom
   box-read =
       let size = boxLength (q .protected) (q .«iv_size») in
-      write-read q size q-held (write-done q size one-to-zero-checked (le-refl size))
+      write-read q size one-to-zero-held (write-done q size one-to-zero-checked (le-refl size))
 
-  j-accepted : answer (readRows (i .code) (boxBytes q)) ≡ 0
+  one-to-zero-accepted : answer (readRows (i .code) (boxBytes q)) ≡ 0
   unfolding readBox
-  j-accepted = ap (λ (r : BoxRead). r .answer) box-read
+  one-to-zero-accepted = ap (λ (r : BoxRead). r .answer) box-read
 
-  pub j-parameters : parametersOf j ≡ q
+  pub one-to-zero-parameters : parametersOf j ≡ q
   unfolding readBox parametersOf
-  j-parameters = sym (rw j-accepted) ∙ ap (λ (r : BoxRead). r .parameters) box-read
+  one-to-zero-parameters = sym (rw one-to-zero-accepted) ∙ ap (λ (r : BoxRead). r .parameters) box-read
 
   -- key, map and IV are the same
   pub same-key : keyOf j ≡ keyOf i
   unfolding keyOf keyIn
-  same-key = ap (λ (r : Parameters). keyIn r (i .keys)) j-parameters
+  same-key = ap (λ (r : Parameters). keyIn r (i .keys)) one-to-zero-parameters
 
   pub same-map : mapOf j ≡ mapOf i
   unfolding mapOf mapRead entryCount
-  same-map = ap (λ (r : Parameters). mapRead r (i .auxiliary)) j-parameters
+  same-map = ap (λ (r : Parameters). mapRead r (i .auxiliary)) one-to-zero-parameters
 
   pub same-iv : ivOf j ≡ ivOf i
   unfolding ivOf ivRead
-  same-iv = ap (λ (r : Parameters). ivRead r (i .auxiliary)) j-parameters
+  same-iv = ap (λ (r : Parameters). ivRead r (i .auxiliary)) one-to-zero-parameters
 
+  -- and key record and auxiliary data get the same number
   abbrev later : Parameters → ℕ → ℕ
   later r n = answer (keyRows r (i .keys) ++ auxiliaryRows r (i .auxiliary) n)
 
@@ -101,7 +102,7 @@ module _ (i : Inputs) (w : WholeBlocks i) where
 
   same-answer : (n : ℕ) → answered i n ≡ answered j n
   same-answer n =
-      box-done i n (w .accepted) ∙ later-same n ∙ ap (λ (r : Parameters). later r n) (sym j-parameters) ∙ sym (box-done j n j-accepted)
+      box-done i n (w .accepted) ∙ later-same n ∙ ap (λ (r : Parameters). later r n) (sym one-to-zero-parameters) ∙ sym (box-done j n one-to-zero-accepted)
 
   -- the same blocks are ciphered
   pub same-blocks : (o : ℕ) → inCryptRun (patternOf p) o ≡ inCryptRun (patternOf q) o
@@ -111,8 +112,8 @@ module _ (i : Inputs) (w : WholeBlocks i) where
   same-sample : (d : Direction) (xs : List ℕ) → sampleAfter d i xs ≡ sampleAfter d j xs
   unfolding sampleAfter cipheredBy
   same-sample d xs =
-      rw (same-key, same-map, same-iv, j-parameters, ← (same-answer (length xs)))
+      rw (same-key, same-map, same-iv, one-to-zero-parameters, ← (same-answer (length xs)))
       (ap (λ (ys : List ℕ). cond (eqb (answered i (length xs)) 0) ys xs) (ciphered-same p q refl refl same-blocks _ _ d _ _ xs))
 
   pub as-one-to-zero-holds : AsOneToZero i
-  as-one-to-zero-holds = record { accepted = j-accepted; parameters = j-parameters; answer = same-answer; sample = same-sample }
+  as-one-to-zero-holds = record { accepted = one-to-zero-accepted; parameters = one-to-zero-parameters; answer = same-answer; sample = same-sample }

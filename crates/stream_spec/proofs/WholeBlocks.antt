@@ -13,7 +13,7 @@ use Rattle.scheme.specs.Machine.{State}
 use Rattle.scheme.proofs.SamePattern.{held-same, fed-same}
 use Rattle.sample_spec.specs.Sample.{Inputs, parametersOf, keyOf, mapOf, ivOf, sampleRows}
 use Rattle.sample_spec.specs.WholeBlocks.{oneToZero, underOneToZero, WholeBlocks}
-use Rattle.sample_spec.proofs.WholeBlocks.{one-to-zero-checked, j-parameters, same-key, same-map, same-iv, same-blocks, as-one-to-zero-holds}
+use Rattle.sample_spec.proofs.WholeBlocks.{one-to-zero-checked, one-to-zero-parameters, same-key, same-map, same-iv, same-blocks, as-one-to-zero-holds}
 use Rattle.stream_spec.specs.declared.Declared.{Declared}
 use Rattle.stream_spec.specs.declared.Progress.{Progress}
 use Rattle.stream_spec.specs.declared.Stream.{Stream}
@@ -109,7 +109,7 @@ module _ (d : Direction) (i : Inputs) (n : ℕ) (w : WholeBlocks i) where
   other = record { direction = d; parameters = oneToZero p; length = n; map = mapOf i; key = record { 0 = keyOf i } }
 
   other-is : declaredBy d j n ≡ other
-  other-is = rw (j-parameters i w, same-map i w, same-key i w)
+  other-is = rw (one-to-zero-parameters i w, same-map i w, same-key i w)
 
   same-declared : answer (sampleRows i n) ≡ 0 → SameDeclared (declaredBy d i n) other
   unfolding soundDeclared machine
