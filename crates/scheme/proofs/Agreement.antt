@@ -15,13 +15,13 @@ use borrow.Author.Tests.{eqb-true, eqb-false, eq-eqb, ne-eqb, lt-ltb, le-ltb}
 use Rattle.scheme.specs.declared.Pattern.{Pattern}
 use Rattle.scheme.specs.declared.Scheme.{Scheme}
 use Rattle.scheme.specs.declared.Scheme.the-variants.{Cenc, Cbc1, Cens, Cbcs}
-use Rattle.scheme.specs.Layout.{Entry, total, inWholeBlock, inCryptRun, tabulate, isCiphered, rangeMarks, marks, mask, restarts, restartMask, chosen, replaced, count}
+use Rattle.scheme.specs.Layout.{isCryptBlock, Entry, total, inWholeBlock, inCryptRun, tabulate, isCiphered, rangeMarks, marks, mask, restarts, restartMask, chosen, replaced, count}
 use Rattle.modes_spec.specs.declared.Direction.{Direction}
 use Rattle.modes_spec.specs.Modes.{Cipher, counterAt, streamByte, ctr, blockOut, blockChain, cbcBlocks, cbc, Sized}
 use Rattle.scheme.specs.WholeSample.{over, overEach, whole}
 use Rattle.octets.specs.Bytes.{Bytes}
 use Rattle.modes_spec.proofs.Counter.{steps, no-step}
-use Rattle.scheme.proofs.Patterns.{cryptBlock, first-or-none}
+use Rattle.scheme.proofs.Patterns.{first-or-none}
 use Rattle.scheme.proofs.Pieces.{cond-law, count-marked, count-unmarked, length-blockOut, feed-append, feed-position, heldAfter, Added, feed-adds}
 use Rattle.scheme.specs.declared.Mode.{Mode}
 use Rattle.scheme.specs.declared.Mode.the-variants.{Counter, Chain}
@@ -273,9 +273,9 @@ module _ (pattern : Pattern) where
   blockwise-cbcs n =
       ⊎-elim
       (λ c.
-      blockwise-range (λ (k : ℕ). ltb k (n / 16) && cryptBlock pattern k) (λ (k : ℕ). eqb k 0) n
+      blockwise-range (λ (k : ℕ). ltb k (n / 16) && isCryptBlock pattern k) (λ (k : ℕ). eqb k 0) n
       (rw (le-ltb (n / 16) (n / 16) (omega arith))) (λ u. rw (lt-ltb 0 (n / 16) u) c) refl (λ j u. ne-eqb j 0 (omega arith)))
-      (λ c. blockwise-none (λ (k : ℕ). ltb k (n / 16) && cryptBlock pattern k) (λ (k : ℕ). eqb k 0) (λ j. rw (c j) (and-false (ltb j (n / 16)))) 0 n)
+      (λ c. blockwise-none (λ (k : ℕ). ltb k (n / 16) && isCryptBlock pattern k) (λ (k : ℕ). eqb k 0) (λ j. rw (c j) (and-false (ltb j (n / 16)))) 0 n)
       (first-or-none pattern)
 
   blockwise-sample : (es : List Entry) → Blockwise false (mask Cbc1 pattern es) (restartMask Cbc1 es)

@@ -1,5 +1,5 @@
 -- Which blocks of a range a pattern ciphers, by their numbers.
-use mathlib.Core.Bool.{Bool, true, false, cond}
+use mathlib.Core.Bool.{true, false}
 use mathlib.Core.Logic.{_⊎_, inl, inr}
 use mathlib.Core.Path.{_≡_, refl}
 use Prim.Native.Nat.{ℕ, zero, suc, _+_, _/_, _%_, _≤_}
@@ -9,11 +9,7 @@ use lib.Dec.{ltb}
 use borrow.Author.Tests.{eq-eqb, ne-eqb, lt-ltb, le-ltb}
 use Rattle.track_spec.specs.Track.{noPattern}
 use Rattle.scheme.specs.declared.Pattern.{Pattern}
-use Rattle.scheme.specs.Layout.{period, inCryptRun}
-
--- the block of a number is one of the crypt blocks
-abbrev pub cryptBlock : Pattern → ℕ → Bool
-cryptBlock pattern k = cond (noPattern (pattern .crypt) (pattern .skip)) true (ltb (k % period pattern) (pattern .crypt))
+use Rattle.scheme.specs.Layout.{period, isCryptBlock, inCryptRun}
 
 -- 0:0 has no period
 no-period : (crypt skip : ℕ) → crypt + skip ≡ 0 → noPattern crypt skip ≡ true
@@ -35,11 +31,11 @@ module _ (pattern : Pattern) (o : ℕ) where
   by-period l = rw (some-period (pattern .crypt) (pattern .skip) l)
 
 -- the first block of a range is ciphered, or no block is
-pub first-or-none : (pattern : Pattern) → (cryptBlock pattern 0 ≡ true) ⊎ ((k : ℕ) → cryptBlock pattern k ≡ false)
+pub first-or-none : (pattern : Pattern) → (isCryptBlock pattern 0 ≡ true) ⊎ ((k : ℕ) → isCryptBlock pattern k ≡ false)
 first-or-none pattern = go (pattern .crypt) (pattern .skip)
   where
     go : (c s : ℕ)
-        → (cryptBlock (record { crypt = c; skip = s }) 0 ≡ true) ⊎ ((k : ℕ) → cryptBlock (record { crypt = c; skip = s }) k ≡ false)
+        → (isCryptBlock (record { crypt = c; skip = s }) 0 ≡ true) ⊎ ((k : ℕ) → isCryptBlock (record { crypt = c; skip = s }) k ≡ false)
     go zero zero = inl refl
     go zero (suc s) = inr (λ k. rw (ne-eqb (suc s) 0 (omega arith)) (le-ltb (k % (0 + suc s)) 0 (omega arith)))
     go (suc c) s = inl (rw (ne-eqb (suc c) 0 (omega arith), zero-mod (suc c + s)) (lt-ltb 0 (suc c) (omega arith)))

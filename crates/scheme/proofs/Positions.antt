@@ -12,10 +12,9 @@ use borrow.Author.Tests.{ltb-true, ltb-false, le-ltb}
 use Rattle.scheme.specs.declared.Pattern.{Pattern}
 use Rattle.scheme.specs.declared.Scheme.{Scheme}
 use Rattle.scheme.specs.declared.Scheme.the-variants.{Cenc, Cbc1, Cens, Cbcs}
-use Rattle.scheme.specs.Layout.{Entry, inWholeBlock, inCryptRun, tabulate, isCiphered, rangeMarks, marks, mask, count}
+use Rattle.scheme.specs.Layout.{isCryptBlock, Entry, inWholeBlock, inCryptRun, tabulate, isCiphered, rangeMarks, marks, mask, count}
 use Rattle.scheme.specs.Machine.{modeOf}
 use Rattle.scheme.specs.Held.{Place, Clear, Inside, place, inPlace, inBlock, heldAt}
-use Rattle.scheme.proofs.Patterns.{cryptBlock}
 use Rattle.scheme.proofs.Pieces.{cond-law, heldAfter}
 use Rattle.scheme.proofs.Agreement.{byBlock, length-range, tabulate-block, tabulate-last}
 
@@ -185,8 +184,8 @@ module _ (pattern : Pattern) where
   unfolding mask inBlock isCiphered inWholeBlock inCryptRun
   rank-block Cenc h es x = absurd (h refl)
   rank-block Cbc1 h es x = rank-at (λ (n k : ℕ). ltb k (n / 16)) past es x
-  rank-block Cens h es x = rank-at (λ (n k : ℕ). ltb k (n / 16) && cryptBlock pattern k) (λ n. rw past) es x
-  rank-block Cbcs h es x = rank-at (λ (n k : ℕ). ltb k (n / 16) && cryptBlock pattern k) (λ n. rw past) es x
+  rank-block Cens h es x = rank-at (λ (n k : ℕ). ltb k (n / 16) && isCryptBlock pattern k) (λ n. rw past) es x
+  rank-block Cbcs h es x = rank-at (λ (n k : ℕ). ltb k (n / 16) && isCryptBlock pattern k) (λ n. rw past) es x
 
   -- as many bytes are held after the ciphered ones before position x as that position calls for
   pub heldAt-is : (es : List Entry) (s : Scheme) (x : ℕ)

@@ -122,13 +122,12 @@ module _ (pattern : Pattern) (n o f : ℕ) (q : ℕ) (ef : f ≡ (period pattern
           freed = λ e g. omega arith;
         }
 
-pub is-cens : (pattern : Pattern) (n x : ℕ) → isCiphered Cens pattern n x ≡ (inWholeBlock n x) && (inCryptRun pattern x)
+-- what is said of a scheme that ciphers by the pattern holds of both
+pub in-both : (pattern : Pattern) (n o e : ℕ) (b : Bool)
+    → ((s : Scheme) → ((x : ℕ) → isCiphered s pattern n x ≡ (inWholeBlock n x) && (inCryptRun pattern x)) → RunAt s pattern n o b e)
+    → (RunAt Cens pattern n o b e) × (RunAt Cbcs pattern n o b e)
 unfolding isCiphered
-is-cens pattern n x = refl
-
-pub is-cbcs : (pattern : Pattern) (n x : ℕ) → isCiphered Cbcs pattern n x ≡ (inWholeBlock n x) && (inCryptRun pattern x)
-unfolding isCiphered
-is-cbcs pattern n x = refl
+in-both pattern n o e b f = (f Cens (λ x. refl), f Cbcs (λ x. refl))
 
 -- the same by the block's place in its turn of the pattern
 module _ (pattern : Pattern) (n o e : ℕ) (some : 1 ≤ period pattern) (w : o < n / 16 * 16) (s : Scheme)

@@ -29,10 +29,14 @@ period pattern = pattern .crypt + pattern .skip
 unfoldable pub inWholeBlock : ℕ → ℕ → Bool
 inWholeBlock n o = ltb (o / 16) (n / 16)
 
--- The block at offset o is one of the crypt blocks that each crypt + skip blocks begin with. "0:0 ciphers every whole block of a
--- range" (document 02, Ask 2): it has no period, and each block is one of them.
+-- Block k is one of the crypt blocks that each crypt + skip blocks begin with. "0:0 ciphers every whole block of a range" (document
+-- 02, Ask 2): it has no period, and each block is one of them.
+abbrev pub isCryptBlock : Pattern → ℕ → Bool
+isCryptBlock pattern k = cond (noPattern (pattern .crypt) (pattern .skip)) true (ltb (k % period pattern) (pattern .crypt))
+
+-- The block at offset o is one of them.
 unfoldable pub inCryptRun : Pattern → ℕ → Bool
-inCryptRun pattern o = cond (noPattern (pattern .crypt) (pattern .skip)) true (ltb (o / 16 % period pattern) (pattern .crypt))
+inCryptRun pattern o = isCryptBlock pattern (o / 16)
 
 -- The byte at offset o is ciphered.
 unfoldable pub isCiphered : Scheme → Pattern → ℕ → ℕ → Bool

@@ -21,9 +21,10 @@ use Rattle.sample_spec.specs.Depends.{AlikeInputs}
 use Rattle.sample_spec.proofs.Depends.{boxes-alike, maps-alike, inputs-alike}
 use Rattle.stream_spec.specs.declared.Declared.{Declared}
 use Rattle.stream_spec.specs.declared.Stream.{Stream}
-use Rattle.stream_spec.specs.Stream.{heldBy, soundDeclared, sound, begun, idle, declaredBy, start, due, feedRows, afterPiece, feed, endRows, end}
+use Rattle.stream_spec.specs.Stream.{heldBy, soundDeclared, sound, begun, idle, declaredBy, start, feedRows, afterPiece, feed, end}
 use Rattle.stream_spec.specs.Demand3.{Call, Reply, reply, make, run, replies}
 use Rattle.stream_spec.specs.Depends.{AlikeDeclared, AlikeStreams, AlikeRecords, AlikeCalls, none, feeding, ending}
+use Rattle.stream_spec.proofs.SameRules.{SameRules, same-sound, same-rows, same-reply, same-end}
 use Rattle.stream_spec.proofs.Rules.{next-position, next-held, next-places, done-sound}
 
 -- ---- Parameters.
@@ -48,45 +49,33 @@ module _ {q r : Declared} (s : AlikeDeclared q r) where
   held-by x = rw (s .map, s .length) (held-alike (s .parameters) (r .map) (r .length) x)
 
 module _ {t u : Stream} (s : AlikeStreams t u) where
-  sound-alike : sound t ≡ sound u
-  unfolding sound
-  sound-alike =
-      rw (
-        rules-alike (s .declared),
-        held-by (s .declared) (t .progress .position),
-        s .declared .length,
-        s .position,
-        s .held-count,
-      )
-
-  due-alike : (n : ℕ) → due t n ≡ due u n
-  unfolding due
-  due-alike n = rw (s .held-count, s .position) (rw (held-by (s .declared) (u .progress .position + n)))
-
-  rows-alike : (n room : ℕ) → answer (feedRows t n room) ≡ answer (feedRows u n room)
-  unfolding feedRows answer
-  rows-alike n room = rw (sound-alike, due-alike n, s .declared .length, s .position)
+  same-rules : SameRules t u
+  same-rules =
+      record {
+        rules = rules-alike (s .declared);
+        length = s .declared .length;
+        held = held-by (s .declared);
+        position = s .position;
+        held-count = s .held-count;
+      }
 
   -- pieces of one length and outputs of one length: the same answer, and as many bytes released
   module _ (piece piece′ : List ℕ) (room room′ : ℕ) (l : length piece ≡ length piece′) (e : room ≡ room′) where
     pub feed-alike : feed t piece room .answer ≡ feed u piece′ room′ .answer
-    unfolding feed
-    feed-alike = rw (l, e) (rows-alike (length piece′) room′)
+    feed-alike = ap (λ (r : Reply). r .answer) (same-reply same-rules piece piece′ room room′ l e)
 
     pub released-alike : feed t piece room .released ≡ feed u piece′ room′ .released
-    unfolding feed
-    released-alike = rw (l, e, rows-alike (length piece′) room′, due-alike (length piece′))
+    released-alike = ap (λ (r : Reply). r .released) (same-reply same-rules piece piece′ room room′ l e)
 
   pub end-alike : end t .answer ≡ end u .answer
-  unfolding end endRows answer
-  end-alike = rw (sound-alike, s .declared .length, s .position)
+  end-alike = same-end same-rules
 
 -- ---- A list of calls.
 
 module _ {t u : Stream} (s : AlikeRecords t u) (piece piece′ : List ℕ) (l : length piece ≡ length piece′) where
   next-alike : sound t ≡ true → AlikeRecords (afterPiece t piece) (afterPiece u piece′)
   next-alike ok =
-      let k : sound u ≡ true = sym (sound-alike (s .streams)) ∙ ok in
+      let k : sound u ≡ true = sym (same-sound (same-rules (s .streams))) ∙ ok in
       record {
         streams = record {
           declared = s .streams .declared;
@@ -103,7 +92,7 @@ module _ {t u : Stream} (s : AlikeRecords t u) (piece piece′ : List ℕ) (l : 
     stream-alike : AlikeRecords (feed t piece room .stream) (feed u piece′ room′ .stream)
     unfolding feed
     stream-alike =
-        rw (← l, ← e, ← (rows-alike (s .streams) (length piece) room))
+        rw (← l, ← e, ← (same-rows (same-rules (s .streams)) (length piece) room))
         (go (eqb (answer (feedRows t (length piece) room)) 0) (not (eqb (length piece) 0)) refl)
       where
         go : (b c : Bool) → eqb (answer (feedRows t (length piece) room)) 0 ≡ b
@@ -119,8 +108,7 @@ unfolding run replies make
 run-alike none s = refl
 run-alike (feeding piece piece′ out out′ l e c) s =
     ap₂ (λ (y : Reply) (ys : List Reply). y ∷ ys)
-    (ap₂ reply (feed-alike (s .streams) piece piece′ (length out) (length out′) l e)
-    (released-alike (s .streams) piece piece′ (length out) (length out′) l e))
+    (same-reply (same-rules (s .streams)) piece piece′ (length out) (length out′) l e)
     (run-alike c (stream-alike s piece piece′ l (length out) (length out′) e))
 run-alike (ending c) s =
     ap₂ (λ (y : Reply) (ys : List Reply). y ∷ ys) (ap (λ (n : ℕ). reply n 0) (end-alike (s .streams))) (run-alike c s)

@@ -2,6 +2,7 @@ pub mod Reached
 pub mod Accepted
 pub mod Starting
 pub mod Rules
+pub mod SameRules
 pub mod Feeding
 pub mod Releasing
 pub mod Demand3

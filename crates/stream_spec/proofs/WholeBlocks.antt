@@ -2,7 +2,7 @@
 use mathlib.Core.Bool.{Bool, true, false, cond, not, _&&_}
 use mathlib.Core.List.{List, [], _∷_}
 use mathlib.Core.Path.{_≡_, refl, ap, ap₂}
-use Prim.Native.Nat.{ℕ, _+_}
+use Prim.Native.Nat.{ℕ}
 use lib.Dec.{eqb}
 use lib.ListN.{length}
 use borrow.Author.Tests.{eqb-true}
@@ -17,10 +17,11 @@ use Rattle.sample_spec.proofs.WholeBlocks.{one-to-zero-checked, one-to-zero-par
 use Rattle.stream_spec.specs.declared.Declared.{Declared}
 use Rattle.stream_spec.specs.declared.Progress.{Progress}
 use Rattle.stream_spec.specs.declared.Stream.{Stream}
-use Rattle.stream_spec.specs.Stream.{heldBy, soundDeclared, sound, begun, begunWith, idle, declaredBy, start, stateOf, progressOf, due, feedRows, machine, fedBy, afterPiece, feed, outputAfter, endRows, end}
+use Rattle.stream_spec.specs.Stream.{heldBy, soundDeclared, begun, begunWith, idle, declaredBy, start, stateOf, progressOf, feedRows, machine, fedBy, afterPiece, feed, outputAfter}
 use Rattle.stream_spec.specs.Demand3.{Call, Feeding, Ending, Reply, reply, make, run, replies}
 use Rattle.stream_spec.specs.WholeBlocks.{outputs, PiecesAsOneToZero}
 use Rattle.stream_spec.proofs.Accepted.{rules}
+use Rattle.stream_spec.proofs.SameRules.{SameRules, same-due, same-rows, same-reply, same-end}
 
 -- ---- Two declared samples that keep the same rules, hold the same bytes and are fed alike.
 
@@ -48,35 +49,17 @@ next-is q g piece room = go (eqb (answer (feedRows (at q g) (length piece) room)
 
 module _ (q r : Declared) (s : SameDeclared q r) where
   module _ (g : Progress) where
-    same-sound : sound (at q g) ≡ sound (at r g)
-    unfolding sound
-    same-sound = rw (s .rules, s .held (g .position), s .length)
-
-    same-due : (n : ℕ) → due (at q g) n ≡ due (at r g) n
-    unfolding due
-    same-due n = rw (s .held (g .position + n))
-
-    same-rows : (n room : ℕ) → answer (feedRows (at q g) n room) ≡ answer (feedRows (at r g) n room)
-    unfolding feedRows answer
-    same-rows n room = rw (same-sound, same-due n, s .length)
-
-    same-end : end (at q g) .answer ≡ end (at r g) .answer
-    unfolding end endRows answer
-    same-end = rw (same-sound, s .length)
+    same-rules : SameRules (at q g) (at r g)
+    same-rules = record { rules = s .rules; length = s .length; held = s .held; position = refl; held-count = refl }
 
     module _ (piece : List ℕ) where
       same-next : (room : ℕ) → next q g piece room ≡ next r g piece room
-      same-next room = rw (same-rows (length piece) room, s .fed (stateOf g) piece)
-
-      same-reply : (room : ℕ)
-          → reply (feed (at q g) piece room .answer) (feed (at q g) piece room .released)
-          ≡ reply (feed (at r g) piece room .answer) (feed (at r g) piece room .released)
-      unfolding feed
-      same-reply room = rw (same-rows (length piece) room, same-due (length piece))
+      same-next room = rw (same-rows same-rules (length piece) room, s .fed (stateOf g) piece)
 
       same-output : (out : List ℕ) → outputAfter (at q g) piece out ≡ outputAfter (at r g) piece out
       unfolding outputAfter
-      same-output out = rw (same-rows (length piece) (length out), same-due (length piece), s .fed (stateOf g) piece)
+      same-output out =
+          rw (same-rows same-rules (length piece) (length out), same-due same-rules (length piece), s .fed (stateOf g) piece)
 
   pub same-run : (g : Progress) (cs : List Call)
       → (replies (run (at q g) cs) ≡ replies (run (at r g) cs)) × (outputs (run (at q g) cs) ≡ outputs (run (at r g) cs))
@@ -85,14 +68,14 @@ module _ (q r : Declared) (s : SameDeclared q r) where
   same-run g (Feeding piece out ∷ cs) =
       let room = length out in
       let h = same-run (next r g piece room) cs in (
-        ap₂ (λ (y : Reply) (ys : List Reply). y ∷ ys) (same-reply g piece room)
+        ap₂ (λ (y : Reply) (ys : List Reply). y ∷ ys) (same-reply (same-rules g) piece piece room room refl refl)
             (rw (next-is q g piece room, next-is r g piece room, same-next g piece room) (h .0)),
         ap₂ (λ (y : List ℕ) (ys : List (List ℕ)). y ∷ ys) (same-output g piece out)
             (rw (next-is q g piece room, next-is r g piece room, same-next g piece room) (h .1)),
       )
   same-run g (Ending ∷ cs) =
       let h = same-run g cs in (
-        ap₂ (λ (y : Reply) (ys : List Reply). y ∷ ys) (ap (λ (n : ℕ). reply n 0) (same-end g)) (h .0),
+        ap₂ (λ (y : Reply) (ys : List Reply). y ∷ ys) (ap (λ (n : ℕ). reply n 0) (same-end (same-rules g))) (h .0),
         ap (λ (ys : List (List ℕ)). [] ∷ ys) (h .1),
       )
 

@@ -2,9 +2,8 @@ use mathlib.Core.Path.{_≡_}
 use Prim.Native.Nat.{_≤_}
 use native.Mathlib.Nat.{mod-le}
 use native.Mathlib.Omega.{arith}
-use Rattle.scheme.specs.declared.Scheme.the-variants.{Cens, Cbcs}
 use Rattle.scheme.specs.Layout.{period}
-use Rattle.scheme.proofs.Runs.{run-last, run-every, pattern-crypt, pattern-skip, is-cens, is-cbcs}
+use Rattle.scheme.proofs.Runs.{run-last, run-every, pattern-crypt, pattern-skip, in-both}
 use borrow.Author.Needs.{needs}
 use Rattle.part.proofs.runs.pattern_run.Statement.{statement}
 use Rattle.part.proofs.runs.pattern_run.Tie as tie
@@ -18,18 +17,11 @@ whole-run-requires c κs = c .before .before .before .pre .0
 
 returns : tie.Need-returns
 returns c =
-    let s = c .before .before .before .before in
-    let z : period (s .args .pattern) ≡ 0 = omega (arith, c .before .if1 .taken) in (
-      run-every _ _ _ _ _ z (c .whole-run .ensures _) Cens (is-cens _ _),
-      run-every _ _ _ _ _ z (c .whole-run .ensures _) Cbcs (is-cbcs _ _),
-    )
+    let z : period (c .before .before .before .before .args .pattern) ≡ 0 = omega (arith, c .before .if1 .taken) in
+    in-both _ _ _ _ _ (run-every _ _ _ _ _ z (c .whole-run .ensures _))
 
 returns-2 : tie.Need-returns-2
-returns-2 c =
-    let s = start (c .before) in (
-      run-last _ _ _ (s .pre .0) (c .if2 .taken) Cens (is-cens _ _),
-      run-last _ _ _ (s .pre .0) (c .if2 .taken) Cbcs (is-cbcs _ _),
-    )
+returns-2 c = in-both _ _ _ _ _ (run-last _ _ _ (start (c .before) .pre .0) (c .if2 .taken))
 
 sub-first : tie.Need-sub-first
 sub-first c = mod-le _ _
@@ -37,18 +29,14 @@ sub-first c = mod-le _ _
 returns-3 : tie.Need-returns-3
 returns-3 c =
     let w = c .before .before in
-    let some : 1 ≤ period (start (w .before) .args .pattern) = omega (arith, w .before .if1 .left) in (
-      pattern-crypt _ _ _ _ some (w .if2 .left) Cens (is-cens _ _) (c .before .if3 .taken) (c .least .ensures),
-      pattern-crypt _ _ _ _ some (w .if2 .left) Cbcs (is-cbcs _ _) (c .before .if3 .taken) (c .least .ensures),
-    )
+    let some : 1 ≤ period (start (w .before) .args .pattern) = omega (arith, w .before .if1 .left) in
+    in-both _ _ _ _ _ (λ s h. pattern-crypt _ _ _ _ some (w .if2 .left) s h (c .before .if3 .taken) (c .least .ensures))
 
 returns-4 : tie.Need-returns-4
 returns-4 c =
     let w = c .before .before in
-    let some : 1 ≤ period (start (w .before) .args .pattern) = omega (arith, w .before .if1 .left) in (
-      pattern-skip _ _ _ _ some (w .if2 .left) Cens (is-cens _ _) (c .before .if3 .left) (c .least2 .ensures),
-      pattern-skip _ _ _ _ some (w .if2 .left) Cbcs (is-cbcs _ _) (c .before .if3 .left) (c .least2 .ensures),
-    )
+    let some : 1 ≤ period (start (w .before) .args .pattern) = omega (arith, w .before .if1 .left) in
+    in-both _ _ _ _ _ (λ s h. pattern-skip _ _ _ _ some (w .if2 .left) s h (c .before .if3 .left) (c .least2 .ensures))
 
 pub pattern-run-spec : {M : Type 1} → statement M
 pattern-run-spec =
