@@ -1,8 +1,9 @@
-// What a track may have (document 01, "The track box"): the scheme codes, and which parameters are allowed.
+// What a track may have (document 01, "The track box"; document 02, Asks 2 and 8): the scheme codes, and which parameters are allowed.
 ghost use mathlib.Core.Bool.{_&&_};
 ghost use mathlib.Core.Path.{_≡_};
 ghost use Rattle.octets.specs.Answers.{answer};
 ghost use Rattle.track_spec.specs.Track as spec;
+use track_spec::Kid;
 use track_spec::Parameters;
 use track_spec::StartVector;
 use track_spec::refusal;
@@ -101,12 +102,24 @@ fn allowed_fields(code: [u8; 4], protected: u8, iv_size: u8, crypt: u8, skip: u8
     )
 }
 
-// Whether the fields are allowed, and the constant IV zero where none is called for.
+// Whether a track is protected under a KID of sixteen zero bytes.
+fn under_zero_kid(protected: u8, kid: Kid) -> bool
+    ensures { λ r. ⌜ r ≡ spec.underZeroKid protected (kid .0) ⌝ }
+{
+    let bytes = kid.bytes();
+    both(protected == 1, octets::same(&bytes, &[0; Kid::SIZE]))
+}
+
+// Whether the fields are allowed, the KID isn't zero if the track is protected, and the constant IV is zero where none is called for.
 pub fn allowed(p: Parameters) -> bool
     ensures { λ r. ⌜ r ≡ spec.allowed p ⌝ }
 {
     let iv = p.constant_iv;
     let code = p.code;
+    let kid = p.kid;
+    if under_zero_kid(p.protected, kid) {
+        return false;
+    }
     let fields = allowed_fields(code, p.protected, p.iv_size, p.crypt, p.skip);
     if has_constant(p.protected, p.iv_size) {
         return fields;

@@ -1,5 +1,5 @@
 -- What a known code and allowed fields say.
-use mathlib.Core.Bool.{Bool, true, false, cond, _&&_, _||_}
+use mathlib.Core.Bool.{Bool, true, false, cond, not, _&&_, _||_}
 use mathlib.Core.List.{List}
 use mathlib.Core.Logic.{_⊎_, inl, inr, ⊎-elim}
 use mathlib.Core.Path.{_≡_, ap}
@@ -7,12 +7,12 @@ use Prim.Native.Nat.{ℕ, _≤_}
 use native.Mathlib.Omega.{arith}
 use lib.Dec.{eqb, leb}
 use lib.ListN.{length}
-use borrow.Author.Tests.{eqb-true, leb-true}
+use borrow.Author.Tests.{eqb-true, leb-true, not-true}
 use Rattle.octets.specs.Bytes.{same}
 use Rattle.octets.proofs.Bytes.{same-equal}
 use Rattle.octets.proofs.Tests.{&&-left, &&-right, or-true-cases}
 use Rattle.track_spec.specs.declared.Parameters.{Parameters}
-use Rattle.track_spec.specs.Track.{cenc, cbc1, cens, cbcs, zeros, known, hasConstant, noPattern, aPattern, patternOrNone, eightOrSixteen, allowedProtected, allowedFields, allowed}
+use Rattle.track_spec.specs.Track.{cenc, cbc1, cens, cbcs, zeros, known, hasConstant, noPattern, aPattern, patternOrNone, eightOrSixteen, allowedProtected, allowedFields, underZeroKid, allowed}
 
 -- a known code is one of the four
 pub known-cases : (code : List ℕ) → known code ≡ true → (code ≡ cenc) ⊎ ((code ≡ cbc1) ⊎ ((code ≡ cens) ⊎ (code ≡ cbcs)))
@@ -72,8 +72,28 @@ module _ (code : List ℕ) (ivSize crypt skip : ℕ) where
       ⊎-elim (λ e. no-pattern-small crypt skip (&&-right (eqb ivSize 0) _ e))
       (λ e. protected-small (&&-right (eqb protected 1) _ e)) (cond-true (eqb protected 0) _ _ h)
 
-pub allowed-small : (p : Parameters) → allowed p ≡ true → (p .crypt ≤ 15) × (p .skip ≤ 15)
-unfolding allowed
-allowed-small p h =
-    fields-small (p .code) (p .«iv_size») (p .crypt) (p .skip) (p .protected)
-    (&&-right (hasConstant (p .protected) (p .«iv_size») || same (p .«constant_iv» .0) zeros) _ h)
+-- what allowed parameters say, one by one
+module _ (p : Parameters) (h : allowed p ≡ true) where
+  abbrev kid : Bool
+  kid = not (underZeroKid (p .protected) (p .kid .0))
+
+  abbrev constant : Bool
+  constant = hasConstant (p .protected) (p .«iv_size») || same (p .«constant_iv» .0) zeros
+
+  abbrev fields : Bool
+  fields = allowedFields (p .code) (p .protected) (p .«iv_size») (p .crypt) (p .skip)
+
+  pub allowed-kid : underZeroKid (p .protected) (p .kid .0) ≡ false
+  unfolding allowed
+  allowed-kid = not-true _ (&&-left kid constant (&&-left (kid && constant) fields h))
+
+  pub allowed-constant : constant ≡ true
+  unfolding allowed
+  allowed-constant = &&-right kid constant (&&-left (kid && constant) fields h)
+
+  pub allowed-fields : fields ≡ true
+  unfolding allowed
+  allowed-fields = &&-right (kid && constant) fields h
+
+  pub allowed-small : (p .crypt ≤ 15) × (p .skip ≤ 15)
+  allowed-small = fields-small (p .code) (p .«iv_size») (p .crypt) (p .skip) (p .protected) allowed-fields

@@ -1,77 +1,22 @@
--- What the answers depend on: not on the KID, and not on IV bytes but for those of a constant IV where none is called for.
-use mathlib.Core.Bool.{Bool, true, false, cond, _||_}
+-- What the answers depend on: of the KID only on whether it is zero, and that where the track is protected; and not on IV bytes but for
+-- those of a constant IV where none is called for.
+use mathlib.Core.Bool.{Bool, true, false, _||_}
 use mathlib.Core.List.{List}
-use mathlib.Core.Path.{_≡_, refl, sym, ap, _∙_}
-use Prim.Native.Nat.{ℕ, _/_, _%_}
+use mathlib.Core.Path.{_≡_, refl, sym, ap}
+use Prim.Native.Nat.{ℕ, _/_, _%_, _<_}
 use native.Mathlib.Omega.{arith}
-use lib.ListN.{getD, drop}
+use lib.Dec.{eqb}
+use lib.ListN.{length, getD}
+use borrow.Author.Tests.{eqb-true}
 use Rattle.octets.specs.Answers.{answer}
-use Rattle.octets.specs.Bytes.{same, filled}
-use Rattle.octets.proofs.Alike.{number-alike}
-use Rattle.octets.proofs.Bytes.{same-true}
+use Rattle.octets.specs.Bytes.{same}
+use Rattle.octets.proofs.Alike.{number-alike, filled-alike}
 use Rattle.boxes.proofs.Frame.{frame-alike}
 use Rattle.track_spec.specs.declared.Parameters.{Parameters}
-use Rattle.track_spec.specs.Track.{tenc, zeros, hasConstant, allowedFields, allowed, fieldsFrom, fields, badHead, badFields, readRows, parameterRows, writeRows}
+use Rattle.track_spec.specs.Track.{tenc, zeros, hasConstant, zeroKid, underZeroKid, allowed, fieldsFrom, fields, badHead, badFields, readRows, parameterRows, writeRows}
 use Rattle.track_spec.specs.Depends.{AlikeBoxes, AlikeParameters}
 
--- Where none is called for the reader sets the constant IV to zero.
-constant-zero : (t : Bool) (x : List ℕ) → (t || same (cond t x zeros) zeros) ≡ true
-constant-zero true x = refl
-constant-zero false x = same-true zeros zeros refl
-
-allowed-read : (code box : List ℕ)
-    → allowed (fields code box) ≡ allowedFields code (getD box 14 0) (getD box 15 0) (getD box 13 0 / 16) (getD box 13 0 % 16)
-unfolding allowed fields fieldsFrom
-allowed-read code box = rw (constant-zero (hasConstant (getD box 14 0) (getD box 15 0)) (filled 16 (drop 33 box)))
-
-module _ {a b : List ℕ} (s : AlikeBoxes a b) where
-  module _ (code : List ℕ) where
-    head-alike : badHead a (fields code a) ≡ badHead b (fields code b)
-    unfolding badHead fields fieldsFrom
-    head-alike =
-        rw (
-          s .front 8 (omega arith),
-          s .front 13 (omega arith),
-          number-alike a b 3 9 (λ i l m. s .front i (omega arith)),
-          s .front 12 (omega arith),
-        )
-
-    allowed-alike : allowed (fields code a) ≡ allowed (fields code b)
-    allowed-alike =
-        allowed-read code a ∙ rw (s .front 14 (omega arith), s .front 15 (omega arith), s .front 13 (omega arith))
-        (sym (allowed-read code b))
-
-    protected-alike : fields code a .protected ≡ fields code b .protected
-    unfolding fields fieldsFrom
-    protected-alike = s .front 14 (omega arith)
-
-    iv-alike : fields code a .«iv_size» ≡ fields code b .«iv_size»
-    unfolding fields fieldsFrom
-    iv-alike = s .front 15 (omega arith)
-
-    fields-alike : badFields a (fields code a) ≡ badFields b (fields code b)
-    unfolding badFields
-    fields-alike = rw (allowed-alike, s .size, protected-alike, iv-alike, s .constant-size)
-
-    -- the reader's answer
-    pub read-alike : answer (readRows code a) ≡ answer (readRows code b)
-    unfolding readRows answer
-    read-alike =
-        rw (frame-alike 32 tenc a b (s .size) (λ i l. s .front i (omega arith)), head-alike, fields-alike)
-
--- the parameters read of two such boxes
-pub parameters-alike : {a b : List ℕ} → AlikeBoxes a b → (code : List ℕ) → AlikeParameters (fields code a) (fields code b)
-unfolding fields fieldsFrom
-parameters-alike {a} {b} s code =
-    record {
-      code = refl;
-      version = s .front 8 (omega arith);
-      crypt = ap (λ (n : ℕ). n / 16) (s .front 13 (omega arith));
-      skip = ap (λ (n : ℕ). n % 16) (s .front 13 (omega arith));
-      protected = s .front 14 (omega arith);
-      iv-size = s .front 15 (omega arith);
-      constant = λ e. rw (e, sym (s .front 14 (omega arith)), sym (s .front 15 (omega arith)), e);
-    }
+-- ---- Parameters.
 
 module _ (p q : Parameters) (s : AlikeParameters p q) where
   constant-alike : (hasConstant (p .protected) (p .«iv_size») || same (p .«constant_iv» .0) zeros)
@@ -84,9 +29,16 @@ module _ (p q : Parameters) (s : AlikeParameters p q) where
       go true e = rw e
       go false e = rw (e, s .constant e)
 
+  kid-alike : underZeroKid (p .protected) (p .kid .0) ≡ underZeroKid (q .protected) (q .kid .0)
+  kid-alike = rw (← (s .protected)) (go (eqb (p .protected) 1) refl)
+    where
+      go : (t : Bool) → eqb (p .protected) 1 ≡ t → underZeroKid (p .protected) (p .kid .0) ≡ underZeroKid (p .protected) (q .kid .0)
+      go true e = rw (e, s .kid (eqb-true (p .protected) 1 e))
+      go false e = rw e
+
   permitted-alike : allowed p ≡ allowed q
   unfolding allowed
-  permitted-alike = rw (constant-alike, s .code, s .protected, s .iv-size, s .crypt, s .skip)
+  permitted-alike = rw (kid-alike, constant-alike, s .code, s .protected, s .iv-size, s .crypt, s .skip)
 
   -- the answer of the check of parameters
   pub check-alike : answer (parameterRows p) ≡ answer (parameterRows q)
@@ -97,3 +49,52 @@ module _ (p q : Parameters) (s : AlikeParameters p q) where
   pub write-alike : (room : ℕ) → answer (writeRows p room) ≡ answer (writeRows q room)
   unfolding writeRows answer
   write-alike room = rw (permitted-alike, s .code, s .version, s .crypt, s .skip, s .protected, s .iv-size)
+
+-- ---- Boxes.
+
+-- boxes that differ at most in the bytes of a constant IV
+pub iv-bytes-alike : (a b : List ℕ) → length a ≡ length b → ((i : ℕ) → i < 33 → getD a i 0 ≡ getD b i 0) → AlikeBoxes a b
+iv-bytes-alike a b size front =
+    record {
+      size = size;
+      front = λ i l. front i (omega arith);
+      kid = λ e. ap zeroKid (filled-alike a b 16 16 (λ i l m. front i (omega arith)));
+      constant-size = front 32 (omega arith);
+    }
+
+module _ {a b : List ℕ} (s : AlikeBoxes a b) (code : List ℕ) where
+  -- the parameters read of two such boxes
+  pub parameters-alike : AlikeParameters (fields code a) (fields code b)
+  unfolding fields fieldsFrom
+  parameters-alike =
+      record {
+        code = refl;
+        version = s .front 8 (omega arith);
+        crypt = ap (λ (n : ℕ). n / 16) (s .front 13 (omega arith));
+        skip = ap (λ (n : ℕ). n % 16) (s .front 13 (omega arith));
+        protected = s .front 14 (omega arith);
+        iv-size = s .front 15 (omega arith);
+        kid = s .kid;
+        constant = λ e. rw (e, sym (s .front 14 (omega arith)), sym (s .front 15 (omega arith)), e);
+      }
+
+  head-alike : badHead a (fields code a) ≡ badHead b (fields code b)
+  unfolding badHead fields fieldsFrom
+  head-alike =
+      rw (
+        s .front 8 (omega arith),
+        s .front 13 (omega arith),
+        number-alike a b 3 9 (λ i l m. s .front i (omega arith)),
+        s .front 12 (omega arith),
+      )
+
+  fields-alike : badFields a (fields code a) ≡ badFields b (fields code b)
+  unfolding badFields
+  fields-alike =
+      let alike = parameters-alike in
+      rw (permitted-alike (fields code a) (fields code b) alike, s .size, alike .protected, alike .iv-size, s .constant-size)
+
+  -- the reader's answer
+  pub read-alike : answer (readRows code a) ≡ answer (readRows code b)
+  unfolding readRows answer
+  read-alike = rw (frame-alike 32 tenc a b (s .size) (λ i l. s .front i (omega arith)), head-alike, fields-alike)

@@ -4,3 +4,4 @@ pub mod Checking
 pub mod RoundTrip
 pub mod Storing
 pub mod Depends
+pub mod ZeroKid

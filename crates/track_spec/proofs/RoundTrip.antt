@@ -10,15 +10,15 @@ use lib.ListN.{length, getD, take, drop, length-drop, length-append, take-append
 use lib.Seq.{drop-cons, drop-drop, drop-append-add, take-at, drop-at, getD-at, getD-drop, getD-append-add}
 use borrow.Author.Tests.{eqb-true, not-false, le-ltb, eq-eqb}
 use Rattle.octets.specs.Answers.{answer}
-use Rattle.octets.specs.Bytes.{same, filled}
+use Rattle.octets.specs.Bytes.{filled}
 use Rattle.octets.proofs.Answers.{done-head, done-tail}
 use Rattle.octets.proofs.Bytes.{same-equal, filled-long, filled-all}
-use Rattle.octets.proofs.Tests.{&&-left, or-false-left, or-false-right}
+use Rattle.octets.proofs.Tests.{or-false-left, or-false-right}
 use Rattle.boxes.specs.Box as frame
 use Rattle.boxes.proofs.Frame.{frame-long, framed, header-length, size-written, type-written, version-written, flags-written, header-read}
 use Rattle.track_spec.specs.declared.Parameters.{Parameters}
 use Rattle.track_spec.specs.Track.{tenc, zeros, known, hasConstant, allowed, Held, badVersion, boxLength, fieldsFrom, fields, badHead, badFields, readRows, readBox, fieldBytes, boxBytes, writeRows}
-use Rattle.track_spec.proofs.Codes.{allowed-small}
+use Rattle.track_spec.proofs.Codes.{allowed-constant, allowed-small}
 
 -- ---- The fields by themselves, as they follow a header.
 
@@ -168,7 +168,6 @@ module _ (p : Parameters) (held : Held p) (ok : allowed p ≡ true) where
       go false = simp length-append (omega (arith, held .kid))
 
   constant-again : cond has (filled 16 (drop 17 (p .kid .0 ++ tail has))) zeros ≡ p .«constant_iv» .0
-  unfolding allowed
   constant-again = go has refl
     where
       go : (t : Bool) → has ≡ t → cond t (filled 16 (drop 17 (p .kid .0 ++ tail t))) zeros ≡ p .«constant_iv» .0
@@ -177,8 +176,7 @@ module _ (p : Parameters) (held : Held p) (ok : allowed p ≡ true) where
           let d : drop 17 (p .kid .0 ++ tail true) ≡ p .«constant_iv» .0 =
           ap (λ (n : ℕ). drop n (p .kid .0 ++ tail true)) m ∙ drop-append-add (p .kid .0) (tail true) 1 in
           ap (filled 16) d ∙ filled-all 16 (p .«constant_iv» .0) (held .constant)
-      go false e =
-          sym (same-equal (p .«constant_iv» .0) zeros (&&-left (same (p .«constant_iv» .0) zeros) _ (rw e at ok)))
+      go false e = sym (same-equal (p .«constant_iv» .0) zeros (rw e at (allowed-constant p ok)))
 
   -- the fields' bytes read as p
   read-again : fieldsFrom 0 (p .code) (p .version) (fieldBytes p) ≡ p

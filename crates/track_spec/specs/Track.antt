@@ -1,7 +1,7 @@
--- Document 01, "The track box", and document 02, Ask 2: the four scheme codes, the parameters that are allowed, the box read and
--- written.
+-- Document 01, "The track box", and document 02, Asks 2 and 8: the four scheme codes, the parameters that are allowed, the box read
+-- and written.
 use mathlib.Core.Bool.{Bool, cond, not, _&&_, _||_}
-use mathlib.Core.List.{List, [], _∷_, _++_}
+use mathlib.Core.List.{List, [], _∷_, _++_, map}
 use mathlib.Core.Path.{_≡_, refl}
 use Prim.Native.Nat.{ℕ, _+_, _*_, _/_, _%_}
 use lib.Dec.{eqb, leb, ltb}
@@ -72,10 +72,19 @@ allowedFields code protected ivSize crypt skip =
     cond (eqb protected 0) (eqb ivSize 0 && noPattern crypt skip)
     (eqb protected 1 && allowedProtected code ivSize crypt skip)
 
--- The fields are allowed, and where no constant IV is called for its 16 bytes are zero.
+-- The KID is sixteen zero bytes.
+abbrev pub zeroKid : List ℕ → Bool
+zeroKid kid = same kid zeros
+
+-- A protected track under the zero KID (document 02, Ask 8).
+abbrev pub underZeroKid : ℕ → List ℕ → Bool
+underZeroKid protected kid = eqb protected 1 && zeroKid kid
+
+-- The fields are allowed, the KID of a protected track isn't zero, and where no constant IV is called for its 16 bytes are zero.
 unfoldable pub allowed : Parameters → Bool
 allowed p =
-    (hasConstant (p .protected) (p .«iv_size») || same (p .«constant_iv» .0) zeros)
+    not (underZeroKid (p .protected) (p .kid .0))
+    && (hasConstant (p .protected) (p .«iv_size») || same (p .«constant_iv» .0) zeros)
     && allowedFields (p .code) (p .protected) (p .«iv_size») (p .crypt) (p .skip)
 
 -- Parameters as the types of the code hold them: KID and constant IV have 16 bytes.
@@ -232,3 +241,37 @@ pub examples-hold : Hold examples
 unfolding examples allMade allSaid answer readRows known same frame.badFrame number badHead badFields allowed allowedFields allowedProtected
     fields fieldsFrom filled boxBytes frame.header fieldBytes digits
 examples-hold = refl
+
+-- ---- Worked examples: document 02, Ask 8.
+
+-- Boxes in version 0, with a protected flag, an IV size and a KID, and of a protected track with a constant IV.
+abbrev boxUnder : ℕ → ℕ → List ℕ → List ℕ
+boxUnder protected ivSize kid = 0 ∷ 0 ∷ 0 ∷ 32 ∷ tenc ++ (0 ∷ 0 ∷ 0 ∷ 0 ∷ 0 ∷ 0 ∷ protected ∷ ivSize ∷ kid)
+
+abbrev constantBoxUnder : List ℕ → List ℕ
+constantBoxUnder kid = 0 ∷ 0 ∷ 0 ∷ 49 ∷ tenc ++ (0 ∷ 0 ∷ 0 ∷ 0 ∷ 0 ∷ 0 ∷ 1 ∷ 0 ∷ kid ++ (16 ∷ replicate 16 0xaa))
+
+-- What is answered, under a code, to the zero KID and to KIDs of which only the first, a middle or the last byte isn't zero: to who reads
+-- such a box, and to who writes what it says.
+abbrev kidsTried : List (List ℕ)
+kidsTried = zeros ∷ (1 ∷ replicate 15 0) ∷ (replicate 7 0 ++ (1 ∷ replicate 8 0)) ∷ (replicate 15 0 ++ (1 ∷ [])) ∷ []
+
+abbrev answersToKids : List ℕ → (List ℕ → List ℕ) → List ℕ
+answersToKids code box =
+    map (λ kid. answer (readRows code (box kid))) kidsTried ++ map (λ kid. answer (writeRows (fields code (box kid)) 49)) kidsTried
+
+pub kidExamples : List Case
+kidExamples =
+    -- "KIDs of sixteen zero bytes on protected tracks. Refuse them as 4"; "The writers refuse alike."
+    is (answersToKids cenc (boxUnder 1 8)) (4 ∷ 0 ∷ 0 ∷ 0 ∷ 4 ∷ 0 ∷ 0 ∷ 0 ∷ [])
+    ∷ is (answersToKids cbc1 (boxUnder 1 16)) (4 ∷ 0 ∷ 0 ∷ 0 ∷ 4 ∷ 0 ∷ 0 ∷ 0 ∷ [])
+    ∷ is (answersToKids cens (boxUnder 1 8)) (4 ∷ 0 ∷ 0 ∷ 0 ∷ 4 ∷ 0 ∷ 0 ∷ 0 ∷ [])
+    ∷ is (answersToKids cbcs constantBoxUnder) (4 ∷ 0 ∷ 0 ∷ 0 ∷ 4 ∷ 0 ∷ 0 ∷ 0 ∷ [])
+    -- "Unprotected tracks may keep any KID."
+    ∷ is (answersToKids cenc (boxUnder 0 0)) (replicate 8 0) ∷ is (answersToKids cbc1 (boxUnder 0 0)) (replicate 8 0)
+    ∷ is (answersToKids cens (boxUnder 0 0)) (replicate 8 0) ∷ is (answersToKids cbcs (boxUnder 0 0)) (replicate 8 0) ∷ []
+
+pub kid-examples-hold : Hold kidExamples
+unfolding kidExamples allMade allSaid answer readRows writeRows known same frame.badFrame number badHead badFields allowed allowedFields
+    allowedProtected fields fieldsFrom filled
+kid-examples-hold = refl
