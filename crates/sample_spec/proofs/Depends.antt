@@ -12,7 +12,7 @@ use Rattle.track_spec.specs.declared.Parameters.{Parameters}
 use Rattle.track_spec.specs.Track.{fieldsFrom, fields}
 use Rattle.track_spec.proofs.Checking.{read-refusals}
 use Rattle.track_spec.specs.Depends.{AlikeBoxes}
-use Rattle.track_spec.proofs.Depends.{read-alike}
+use Rattle.track_spec.proofs.Depends.{iv-bytes-alike, read-alike}
 use Rattle.subsample_spec.specs.Depends.{AlikeData}
 use Rattle.subsample_spec.proofs.Depends.{fields-alike, map-alike, auxiliary-alike}
 use Rattle.sample_spec.specs.Sample.{Inputs, keyRows, findKey, parametersOf, mapOf, sampleRows}
@@ -35,8 +35,7 @@ module _ {p q : Parameters} {a b : List ℕ} (s : AlikeKeys p q a b) where
 
 module _ {i j : Inputs} (s : AlikeInputs i j) where
   pub boxes-alike : AlikeBoxes (i .box) (j .box)
-  boxes-alike =
-      record { size = s .box-size; front = λ k h. s .box-front k (omega arith); constant-size = s .box-front 32 (omega arith) }
+  boxes-alike = iv-bytes-alike (i .box) (j .box) (s .box-size) (s .box-front)
 
   data-alike : AlikeData (parametersOf i) (parametersOf j) (i .auxiliary) (j .auxiliary)
   unfolding parametersOf

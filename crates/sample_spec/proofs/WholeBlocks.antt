@@ -1,5 +1,5 @@
 -- A sample under 0:0 gets the answer and the bytes that it gets under 1:0.
-use mathlib.Core.Bool.{Bool, true, cond, _||_}
+use mathlib.Core.Bool.{true, cond}
 use mathlib.Core.List.{List, _++_}
 use mathlib.Core.Logic.{_⊎_, ⊎-elim}
 use mathlib.Core.Path.{_≡_, refl, sym, ap, _∙_}
@@ -10,11 +10,12 @@ use lib.ListN.{length}
 use Rattle.octets.specs.Answers.{answer}
 use Rattle.octets.specs.Bytes.{same}
 use Rattle.octets.proofs.OfBytes.{filled-length}
-use Rattle.octets.proofs.Tests.{&&-left, &&-right}
+use Rattle.octets.proofs.Tests.{&&-left}
 use Rattle.modes_spec.specs.declared.Direction.{Direction}
 use Rattle.track_spec.specs.declared.Parameters.{Parameters}
 use Rattle.track_spec.specs.declared.BoxRead.{BoxRead}
-use Rattle.track_spec.specs.Track.{cens, cbcs, zeros, hasConstant, boxLength, eightOrSixteen, patternOrNone, allowed, allowedFields, allowedProtected, Held, fields, fieldsFrom, readRows, readBox, boxBytes, parameterRows}
+use Rattle.track_spec.specs.Track.{cens, cbcs, boxLength, eightOrSixteen, patternOrNone, allowed, allowedFields, allowedProtected, Held, fields, fieldsFrom, readRows, readBox, boxBytes, parameterRows}
+use Rattle.track_spec.proofs.Codes.{allowed-kid, allowed-constant, allowed-fields}
 use Rattle.track_spec.proofs.Fields.{constant-length}
 use Rattle.track_spec.proofs.Checking.{write-done}
 use Rattle.track_spec.proofs.RoundTrip.{accepted, write-read}
@@ -38,9 +39,8 @@ allowed-as-well : (p : Parameters) → (p .code ≡ cens) ⊎ (p .code ≡ cbcs)
     → allowed (oneToZero p) ≡ true
 unfolding allowed
 allowed-as-well p s one h =
-    let a : Bool = hasConstant (p .protected) (p .«iv_size») || same (p .«constant_iv» .0) zeros in
-    let b : Bool = allowedFields (p .code) (p .protected) (p .«iv_size») (p .crypt) (p .skip) in
-    rw (&&-left a b h, one) (fields-allowed (p .code) (p .«iv_size») (p .crypt) (p .skip) s (rw one at (&&-right a b h)))
+    rw (allowed-kid p h, allowed-constant p h, one)
+    (fields-allowed (p .code) (p .«iv_size») (p .crypt) (p .skip) s (rw one at (allowed-fields p h)))
 
 module _ (i : Inputs) (w : WholeBlocks i) where
   abbrev p : Parameters

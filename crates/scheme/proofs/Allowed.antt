@@ -1,5 +1,5 @@
 -- What allowed parameters and an accepted map say of a sample's layout.
-use mathlib.Core.Bool.{Bool, true, false, cond, _||_, true≢false}
+use mathlib.Core.Bool.{Bool, true, false, cond, true≢false}
 use mathlib.Core.List.{List, [], _∷_, _++_}
 use mathlib.Core.Logic.{⊎-elim}
 use mathlib.Core.Path.{_≡_, refl, sym, ap, _∙_}
@@ -12,10 +12,10 @@ use borrow.Author.Tests.{eqb-true, eqb-false, lt-ltb, not-false}
 use Rattle.octets.specs.Answers.{answer}
 use Rattle.octets.specs.Bytes.{same}
 use Rattle.octets.proofs.Answers.{done-head, done-tail}
-use Rattle.octets.proofs.Tests.{&&-left, &&-right}
+use Rattle.octets.proofs.Tests.{&&-left}
 use Rattle.track_spec.specs.declared.Parameters.{Parameters}
-use Rattle.track_spec.specs.Track.{zeros, known, hasConstant, patternOrNone, allowedProtected, allowedFields, allowed}
-use Rattle.track_spec.proofs.Codes.{known-cases}
+use Rattle.track_spec.specs.Track.{known, patternOrNone, allowedProtected, allowedFields, allowed}
+use Rattle.track_spec.proofs.Codes.{known-cases, allowed-fields}
 use Rattle.subsample_spec.specs.declared.SubsampleMap.{SubsampleMap}
 use Rattle.subsample_spec.specs.Auxiliary.{limit, sum, entryLength, mapRows}
 use Rattle.subsample_spec.proofs.Reading.{count-allowed}
@@ -35,11 +35,8 @@ isCbcs Cbcs = true
 -- of a protected track in cbcs the IV is the constant one
 module _ (p : Parameters) (k : known (p .code) ≡ true) (h : allowed p ≡ true) (one : p .protected ≡ 1) (c : schemeOf (p .code) ≡ Cbcs) where
   fields : allowedProtected (p .code) (p .«iv_size») (p .crypt) (p .skip) ≡ true
-  unfolding allowed allowedFields
-  fields =
-      rw one at
-      (&&-right (hasConstant (p .protected) (p .«iv_size») || same (p .«constant_iv» .0) zeros)
-      (allowedFields (p .code) (p .protected) (p .«iv_size») (p .crypt) (p .skip)) h)
+  unfolding allowedFields
+  fields = rw one at (allowed-fields p h)
 
   pub cbcs-constant : p .«iv_size» ≡ 0
   unfolding schemeOf same allowedProtected

@@ -127,6 +127,7 @@ alike-itself t =
           skip = refl;
           protected = refl;
           iv-size = refl;
+          kid = λ e. refl;
           constant = λ e. refl;
         };
         length = refl;
