@@ -65,7 +65,12 @@ module _ (E D : Cipher) (d : Direction) (pattern : Pattern) (v iv : List ℕ) (e
       (modeOf Cens) t xs
   one-iv Cbcs h = rw (h refl)
 
--- of an unprotected track every byte passes
+-- of an unprotected track nothing is held,
+pub clear-held : (p : Parameters) (m : SubsampleMap) (n : ℕ) → eqb (p .protected) 1 ≡ false → (x : ℕ) → part.heldUnder p m n x ≡ 0
+unfolding part.heldUnder part.entriesOf
+clear-held p m n e x = rw e (held-clear (patternOf p) n (schemeOf (p .code)) x)
+
+-- and every byte passes
 module _ (E D : Cipher) (d : Direction) (p : Parameters) (m : SubsampleMap) (n : ℕ) (e : eqb (p .protected) 1 ≡ false) where
   pub clear-fed : (x : ℕ) (c h xs : List ℕ)
       → part.feedUnder E D d p m n (record { position = x; block = c; held = h }) xs
@@ -76,10 +81,6 @@ module _ (E D : Cipher) (d : Direction) (p : Parameters) (m : SubsampleMap) (n :
       (feed-unmarked E D d (modeOf (schemeOf (p .code))) (p .«constant_iv» .0)
       (mask (schemeOf (p .code)) (patternOf p) (entry n 0 ∷ []))
       (restartMask (schemeOf (p .code)) (entry n 0 ∷ [])) (mask-clear (schemeOf (p .code)) (patternOf p) n) x c h xs)
-
-  pub clear-held : (x : ℕ) → part.heldUnder p m n x ≡ 0
-  unfolding part.heldUnder part.entriesOf
-  clear-held x = rw e (held-clear (patternOf p) n (schemeOf (p .code)) x)
 
   pub clear-ciphered : (iv xs : List ℕ) → length xs ≡ n → part.ciphered E D d p m iv xs ≡ xs
   unfolding part.ciphered part.entriesOf
@@ -126,7 +127,7 @@ module _ (E D : Cipher) (sE : Sized E) (sD : Sized D) (d : Direction) (p : Param
           let z : x - 0 ≡ x = omega arith in
           rw (
             clear-fed E D d p m (length xs) e 0 iv [] (take x xs),
-            clear-held E D d p m (length xs) e x,
+            clear-held p m (length xs) e x,
             clear-ciphered E D d p m (length xs) e iv xs refl,
             z,
           )

@@ -1,4 +1,4 @@
--- Document 01, "Numbers answered, in the order tried", and document 02, Ask 2: for each call small inputs with the number that the
+-- Document 01, "Numbers answered, in the order tried", and document 02, Asks 2 and 8: for each call small inputs with the number that the
 -- documents say, one for each number that the call uses and for each two neighbours of the order that apply at once. Told with it are the
 -- lengths answered and the bytes released.
 use mathlib.Core.List.{List, [], _∷_, _++_, map}
@@ -17,7 +17,7 @@ use Rattle.scheme.specs.Layout.{Entry, entry}
 use Rattle.sample_spec.specs.Sample.{Inputs, inputs, findKey, parametersOf, answered, readInputs}
 use Rattle.stream_spec.specs.declared.Stream.{Stream}
 use Rattle.stream_spec.specs.Stream.{progressOf, start, feed, end}
-use Rattle.stream_spec.specs.Samples.{boxWith, ivBox, constantBox, boxOf, keysOf}
+use Rattle.stream_spec.specs.Samples.{boxUnder, boxWith, ivBoxUnder, ivBox, constantBoxUnder, constantBox, boxOf, keysUnder, keysOf}
 
 -- An input, and the number said of it.
 pub record Asked (A : Type 0) : Type 0 where
@@ -34,8 +34,11 @@ asked call qs = is (map (λ q. call (q .input)) qs) (map (λ q. q .number) qs)
 -- ---- What is handed in.
 
 -- An unprotected track.
+abbrev pub clearBoxUnder : List ℕ → List ℕ
+clearBoxUnder kid = boxUnder kid 32 tenc (0 ∷ 0 ∷ 0 ∷ 0 ∷ 0 ∷ 0 ∷ 0 ∷ 0 ∷ []) []
+
 abbrev pub clearBox : List ℕ
-clearBox = boxWith 32 tenc (0 ∷ 0 ∷ 0 ∷ 0 ∷ 0 ∷ 0 ∷ 0 ∷ 0 ∷ []) []
+clearBox = clearBoxUnder (span 1 16)
 
 -- Auxiliary data: a zero IV of some size, the count and the entries.
 unfoldable pub entriesBytes : List Entry → List ℕ
@@ -94,10 +97,39 @@ boxes =
     ∷ gives (ofBox cenc (boxWith 32 tenc (2 ∷ 0 ∷ 0 ∷ 0 ∷ 0 ∷ 0 ∷ 1 ∷ 7 ∷ []) []) eight) 3
     ∷ []
 
+-- Document 02, Ask 8: a box of each scheme and the key record for it, under a KID, with what is answered.
+abbrev pub firstOnly : List ℕ
+firstOnly = 1 ∷ replicate 15 0
+
+abbrev pub lastOnly : List ℕ
+lastOnly = replicate 15 0 ++ (1 ∷ [])
+
+abbrev pub ofKid : List ℕ → List ℕ → List ℕ → List ℕ → Given
+ofKid kid code box auxiliary = given code box auxiliary (keysUnder kid) 5
+
+abbrev pub protectedUnder : List ℕ → ℕ → List (Asked Given)
+protectedUnder kid number =
+    gives (ofKid kid cenc (ivBoxUnder kid 0 0 8) eight) number
+    ∷ gives (ofKid kid cbc1 (ivBoxUnder kid 0 0 16) (replicate 16 0)) number
+    ∷ gives (ofKid kid cens (ivBoxUnder kid 1 25 8) eight) number
+    ∷ gives (ofKid kid cbcs (constantBoxUnder kid 1 25) []) number ∷ []
+
+abbrev pub unprotectedUnder : List ℕ → ℕ → List (Asked Given)
+unprotectedUnder kid number = map (λ code. gives (ofKid kid code (clearBoxUnder kid) []) number) (cenc ∷ cbc1 ∷ cens ∷ cbcs ∷ [])
+
+unfoldable pub kids : List (Asked Given)
+kids =
+    -- "KIDs of sixteen zero bytes on protected tracks. Refuse them as 4"
+    protectedUnder zeros 4 ++ (protectedUnder firstOnly 0 ++ (protectedUnder lastOnly 0
+    -- "Unprotected tracks may keep any KID."
+    ++ (unprotectedUnder zeros 0
+    -- 3 before 4
+    ++ (gives (ofKid zeros cenc (ivBoxUnder zeros 2 0 8) eight) 3 ∷ []))))
+
 -- ---- 1, 3 and 4, of parameters.
 
-abbrev pub parametersWith : List ℕ → ℕ → ℕ → ℕ → ℕ → ℕ → List ℕ → Parameters
-parametersWith code version crypt skip protected ivSize constant =
+abbrev pub parametersUnder : List ℕ → List ℕ → ℕ → ℕ → ℕ → ℕ → ℕ → List ℕ → Parameters
+parametersUnder kid code version crypt skip protected ivSize constant =
     record {
       code = code;
       version = version;
@@ -105,9 +137,12 @@ parametersWith code version crypt skip protected ivSize constant =
       skip = skip;
       protected = protected;
       «iv_size» = ivSize;
-      kid = record { 0 = span 1 16 };
+      kid = record { 0 = kid };
       «constant_iv» = record { 0 = constant };
     }
+
+abbrev pub parametersWith : List ℕ → ℕ → ℕ → ℕ → ℕ → ℕ → List ℕ → Parameters
+parametersWith = parametersUnder (span 1 16)
 
 -- cenc with IVs of 8 bytes, cbc1, cbcs 1:9, and cbcs 0:0 in some version.
 abbrev pub cenc8 : Parameters
@@ -122,6 +157,10 @@ cbcsTrack = parametersWith cbcs 1 1 9 1 0 (replicate 16 170)
 abbrev pub wholeBlocksTrack : ℕ → Parameters
 wholeBlocksTrack version = parametersWith cbcs version 0 0 1 0 (replicate 16 170)
 
+-- cenc with IVs of 8 bytes under a KID.
+abbrev pub cenc8Under : List ℕ → Parameters
+cenc8Under kid = parametersUnder kid cenc 0 0 0 1 8 zeros
+
 unfoldable pub parameters : List (Asked Parameters)
 parameters =
     gives cenc8 0 ∷ gives cbc1Track 0 ∷ gives cbcsTrack 0 ∷ gives unprotected 0
@@ -132,8 +171,13 @@ parameters =
     ∷ gives (parametersWith cens 0 0 1 1 8 zeros) 3 ∷ gives (parametersWith cens 1 0 1 1 8 zeros) 4
     -- "the writer refuses others as 4": a constant IV where none is called for
     ∷ gives (parametersWith cenc 0 0 0 1 7 zeros) 4 ∷ gives (parametersWith cenc 0 0 0 1 8 (replicate 16 170)) 4
+    -- Document 02, Ask 8: "The writers refuse alike."
+    ∷ gives (cenc8Under zeros) 4 ∷ gives (parametersUnder zeros cbc1 0 0 0 1 16 zeros) 4
+    ∷ gives (parametersUnder zeros cens 1 1 9 1 16 zeros) 4 ∷ gives (parametersUnder zeros cbcs 1 1 9 1 0 (replicate 16 170)) 4
+    ∷ gives (cenc8Under firstOnly) 0 ∷ gives (cenc8Under lastOnly) 0 ∷ gives (parametersUnder zeros cbcs 1 0 0 0 0 zeros) 0
     -- 1 before 3, 3 before 4
-    ∷ gives (parametersWith (ascii "senc") 2 0 0 1 8 zeros) 1 ∷ gives (parametersWith cenc 2 0 0 1 7 zeros) 3 ∷ []
+    ∷ gives (parametersWith (ascii "senc") 2 0 0 1 8 zeros) 1 ∷ gives (parametersWith cenc 2 0 0 1 7 zeros) 3
+    ∷ gives (parametersUnder zeros cenc 2 0 0 1 8 zeros) 3 ∷ []
 
 -- ---- 5 and 6, of the key record: "5 and 6 are skipped for an unprotected track".
 
@@ -189,7 +233,9 @@ unfoldable pub boxThenData : List (Asked Given)
 boxThenData = gives (given cenc badBox eight keysOf 16777217) 4 ∷ []
 
 unfoldable pub boxThenKeys : List (Asked Given)
-boxThenKeys = gives (given cenc badBox eight (take 31 keysOf) 5) 4 ∷ gives (given cenc (boxOf 8) eight (span 2 32) 16777217) 6 ∷ []
+boxThenKeys =
+    gives (given cenc badBox eight (take 31 keysOf) 5) 4 ∷ gives (given cenc (ivBoxUnder zeros 0 0 8) eight (take 31 keysOf) 5) 4
+    ∷ gives (given cenc (boxOf 8) eight (span 2 32) 16777217) 6 ∷ []
 
 -- ---- 9 to 12, of a map.
 
@@ -236,6 +282,7 @@ unsound =
     ∷ streamAt (parametersWith cenc 2 0 0 1 8 zeros) 20 emptyMap 10 0
     ∷ streamAt (parametersWith cenc 0 0 0 1 7 zeros) 20 emptyMap 10 0
     ∷ streamAt (parametersWith cbcs 1 0 1 1 0 zeros) 20 emptyMap 10 0
+    ∷ streamAt (cenc8Under zeros) 20 emptyMap 10 0
     -- "map and declared length meet 7 and 9 to 12, with no entries if unprotected"
     ∷ streamAt cenc8 16777217 emptyMap 10 0
     ∷ streamAt cenc8 64 (mapWith [] (replicate 64 1) 65) 10 0
@@ -254,7 +301,7 @@ unsound =
 
 -- "The box reader uses 1 to 4."
 unfoldable pub boxReader : List Case
-boxReader = asked (λ q. readBox (q .inputs .code) (q .inputs .box) .answer) boxes ∷ []
+boxReader = asked (λ q. readBox (q .inputs .code) (q .inputs .box) .answer) (boxes ++ kids) ∷ []
 
 -- "the box writer 1, 3, 4, 17": the answer and the box's length in some room; 4 before 17.
 abbrev pub written : Parameters → ℕ → List ℕ
@@ -266,7 +313,7 @@ boxWriter =
     ∷ is (written cenc8 32) (0 ∷ 32 ∷ []) ∷ is (written cbcsTrack 49) (0 ∷ 49 ∷ [])
     ∷ is (written (wholeBlocksTrack 0) 49) (0 ∷ 49 ∷ []) ∷ is (written (wholeBlocksTrack 0) 48) (17 ∷ 0 ∷ [])
     ∷ is (written cenc8 31) (17 ∷ 0 ∷ []) ∷ is (written cbcsTrack 48) (17 ∷ 0 ∷ [])
-    ∷ is (written (parametersWith cenc 0 0 0 1 7 zeros) 0) (4 ∷ 0 ∷ []) ∷ []
+    ∷ is (written (parametersWith cenc 0 0 0 1 7 zeros) 0) (4 ∷ 0 ∷ []) ∷ is (written (cenc8Under zeros) 0) (4 ∷ 0 ∷ []) ∷ []
 
 -- Of parameters by themselves 1, 3 and 4.
 unfoldable pub parameterCheck : List Case
@@ -276,7 +323,7 @@ parameterCheck = asked (λ p. answer (parameterRows p)) parameters ∷ []
 unfoldable pub auxiliaryReader : List Case
 auxiliaryReader =
     asked (λ q. readAuxiliary (q .inputs .code) (q .inputs .box) (q .inputs .auxiliary) (q .length) .answer)
-    (boxes ++ (auxiliaries ++ boxThenData)) ∷ []
+    (boxes ++ (kids ++ (auxiliaries ++ boxThenData))) ∷ []
 
 -- Under given parameters 7 to 12, of a map by itself 9 to 12, of a key record by itself 5 and 6.
 unfoldable pub underParameters : List Case
@@ -295,7 +342,7 @@ keyFinder = asked (λ q. findKey (parametersOf (q .inputs)) (q .inputs .keys) .a
 
 -- "Whole-sample calls and the start of a stream use 1 to 12".
 abbrev pub ofSample : List (Asked Given)
-ofSample = boxes ++ (keyRecords ++ (auxiliaries ++ (boxThenData ++ boxThenKeys)))
+ofSample = boxes ++ (kids ++ (keyRecords ++ (auxiliaries ++ (boxThenData ++ boxThenKeys))))
 
 unfoldable pub wholeSample : List Case
 wholeSample =
@@ -312,10 +359,13 @@ fed t k room = feed t (replicate k 0) room .answer ∷ feed t (replicate k 0) ro
 
 unfoldable pub feeding : List Case
 feeding =
-    is (map (λ t. feed t [] 0 .answer) unsound) (replicate 15 13)
-    ∷ is (map (λ t. feed t [] 0 .released) unsound) (replicate 15 0)
+    is (map (λ t. feed t [] 0 .answer) unsound) (replicate 16 13)
+    ∷ is (map (λ t. feed t [] 0 .released) unsound) (replicate 16 0)
     ∷ is (fed (streamAt cenc8 20 emptyMap 10 0) 10 10) (0 ∷ 10 ∷ [])
     ∷ is (fed (streamAt cenc8 20 emptyMap 10 0) 0 0) (0 ∷ 0 ∷ [])
+    -- Document 02, Ask 8: a KID with one byte, and the zero KID of an unprotected track.
+    ∷ is (fed (streamAt (cenc8Under lastOnly) 20 emptyMap 10 0) 10 10) (0 ∷ 10 ∷ [])
+    ∷ is (fed (streamAt unprotected 20 emptyMap 10 0) 10 10) (0 ∷ 10 ∷ [])
     ∷ is (fed (streamAt cbc1Track 40 emptyMap 10 10) 5 0) (0 ∷ 0 ∷ [])
     ∷ is (fed (streamAt cbc1Track 40 emptyMap 10 10) 6 16) (0 ∷ 16 ∷ [])
     ∷ is (fed (streamAt (wholeBlocksTrack 0) 40 emptyMap 20 4) 12 16) (0 ∷ 16 ∷ [])
@@ -330,7 +380,7 @@ feeding =
 -- "the end 13 and 16": 13 before 16, as most of the records have not reached their length.
 unfoldable pub ending : List Case
 ending =
-    is (map (λ t. end t .answer) unsound) (replicate 15 13)
+    is (map (λ t. end t .answer) unsound) (replicate 16 13)
     ∷ is (end (streamAt cenc8 20 emptyMap 20 0) .answer ∷ end (streamAt cenc8 20 emptyMap 19 0) .answer ∷ []) (0 ∷ 16 ∷ []) ∷ []
 
 -- ---- The claim, for all of them.

@@ -37,23 +37,36 @@ unfoldable pub told : List Reply → List ℕ
 told [] = []
 told (r ∷ rs) = r .answer ∷ r .released ∷ told rs
 
--- A box with a size field and a type: the eight bytes from the version to the IV size, KID 1 to 16, and what follows.
+-- A box with a size field and a type: the eight bytes from the version to the IV size, a KID, and what follows; with KID 1 to 16.
+abbrev pub boxUnder : List ℕ → ℕ → List ℕ → List ℕ → List ℕ → List ℕ
+boxUnder kid size kind fields after = 0 ∷ 0 ∷ 0 ∷ size ∷ kind ++ (fields ++ (kid ++ after))
+
 abbrev pub boxWith : ℕ → List ℕ → List ℕ → List ℕ → List ℕ
-boxWith size kind fields after = 0 ∷ 0 ∷ 0 ∷ size ∷ kind ++ (fields ++ (span 1 16 ++ after))
+boxWith = boxUnder (span 1 16)
 
 -- Of a protected track in some version and with a pattern byte: with an IV size, or with a constant IV.
+abbrev pub ivBoxUnder : List ℕ → ℕ → ℕ → ℕ → List ℕ
+ivBoxUnder kid version pattern ivSize = boxUnder kid 32 tenc (version ∷ 0 ∷ 0 ∷ 0 ∷ 0 ∷ pattern ∷ 1 ∷ ivSize ∷ []) []
+
 abbrev pub ivBox : ℕ → ℕ → ℕ → List ℕ
-ivBox version pattern ivSize = boxWith 32 tenc (version ∷ 0 ∷ 0 ∷ 0 ∷ 0 ∷ pattern ∷ 1 ∷ ivSize ∷ []) []
+ivBox = ivBoxUnder (span 1 16)
+
+abbrev pub constantBoxUnder : List ℕ → ℕ → ℕ → List ℕ
+constantBoxUnder kid version pattern =
+    boxUnder kid 49 tenc (version ∷ 0 ∷ 0 ∷ 0 ∷ 0 ∷ pattern ∷ 1 ∷ 0 ∷ []) (16 ∷ replicate 16 170)
 
 abbrev pub constantBox : ℕ → ℕ → List ℕ
-constantBox version pattern = boxWith 49 tenc (version ∷ 0 ∷ 0 ∷ 0 ∷ 0 ∷ pattern ∷ 1 ∷ 0 ∷ []) (16 ∷ replicate 16 170)
+constantBox = constantBoxUnder (span 1 16)
 
 -- In version 0 without a pattern; the key record for it; auxiliary data with a zero IV of that size.
 abbrev pub boxOf : ℕ → List ℕ
 boxOf ivSize = ivBox 0 0 ivSize
 
+abbrev pub keysUnder : List ℕ → List ℕ
+keysUnder kid = kid ++ span 101 16
+
 abbrev pub keysOf : List ℕ
-keysOf = span 1 16 ++ span 101 16
+keysOf = keysUnder (span 1 16)
 
 -- What a whole-sample call or a start answers, for a sample of n bytes and what follows the IV.
 abbrev pub answeredFor : List ℕ → ℕ → List ℕ → ℕ → List ℕ
