@@ -115,7 +115,12 @@ static void make_box(const struct kind *kind) {
     }
     box[14] = kind->protected;
     box[15] = kind->iv_size;
-    fill(box + 16, 16);
+    /* A KID of zeros but for one byte, sometimes; where the track isn't protected, that byte may be zero too. */
+    if (once_in(8)) {
+        box[16 + below(16)] = (uint8_t)(kind->protected == 1 ? 1 + below(255) : below(2));
+    } else {
+        fill(box + 16, 16);
+    }
     if (constant) {
         box[32] = 16;
         fill(box + 33, 16);
@@ -228,6 +233,10 @@ static int make(void) {
     made[KEYS].length = CENC_KEY_RECORD_LENGTH;
     made[SAMPLE].length = make_auxiliary(kind, !sound && once_in(2));
     if (!sound) {
+        if (once_in(16)) {
+            memset(made[BOX].bytes + 16, 0, 16);
+            memset(made[KEYS].bytes, 0, 16);
+        }
         if (once_in(4096)) {
             made[SAMPLE].length = CENC_MAX_SAMPLE_LENGTH + 1;
         }
@@ -237,6 +246,12 @@ static int make(void) {
     }
     fill(made[SAMPLE].bytes, made[SAMPLE].length);
     return sound;
+}
+
+/* Whether an accepted box is that of a protected track under the zero KID. */
+static int has_zero_kid(void) {
+    static const uint8_t zero[16];
+    return made[BOX].bytes[14] == 1 && memcmp(made[BOX].bytes + 16, zero, sizeof zero) == 0;
 }
 
 /* Where the ranges lie in a call: pages with one before and one behind that can't be touched, or a block of the heap. */
@@ -348,6 +363,9 @@ int main(int count, char **words) {
         int number = try(called);
         if (sound && number != 0) {
             fail("sound inputs were refused", number);
+        }
+        if (number == 0 && has_zero_kid()) {
+            fail("a protected track under the zero KID was accepted", number);
         }
         if (try(undoing) != number) {
             fail("locking and opening do not answer the same number", number);

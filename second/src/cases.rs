@@ -115,7 +115,7 @@ const KINDS: [(&[u8; 4], u8, u8, u8); 20] = [
 
 const PROTECTED_KINDS: usize = 12;
 
-/// Accepted parameters of one kind; pattern, KID and constant IV are random.
+/// Accepted parameters of one kind; pattern, KID and constant IV are random, the KID also near zero.
 fn parameters(random: &mut Random, kind: usize) -> Parameters {
     let (code, version, protected, iv_size) = KINDS[kind];
     let mut parameters = Parameters {
@@ -123,7 +123,11 @@ fn parameters(random: &mut Random, kind: usize) -> Parameters {
         version,
         protected,
         iv_size,
-        kid: random.array(),
+        kid: match random.below(8) {
+            0 => near_zero_kid(random),
+            1..=2 if protected == 0 => [0; 16],
+            _ => random.array(),
+        },
         ..Parameters::REFUSED
     };
     // In version 0 the pattern is 0:0, in version 1 sometimes.
@@ -135,10 +139,15 @@ fn parameters(random: &mut Random, kind: usize) -> Parameters {
     if parameters.has_constant() {
         parameters.constant = random.array();
     }
-    if protected == 0 && random.once_in(4) {
-        parameters.kid = [0; 16];
-    }
     parameters
+}
+
+/// A KID that is zero but for one byte: the first, the last or any.
+fn near_zero_kid(random: &mut Random) -> [u8; 16] {
+    let any = random.below(16);
+    let mut kid = [0; 16];
+    kid[random.pick(&[0, 15, any])] = random.other_byte(0);
+    kid
 }
 
 fn any_parameters(random: &mut Random) -> Parameters {
@@ -149,6 +158,13 @@ fn any_parameters(random: &mut Random) -> Parameters {
 /// The box of accepted parameters.
 fn box_of(parameters: &Parameters) -> Vec<u8> {
     track::bytes(parameters).expect("accepted parameters")
+}
+
+/// Puts a box, whole or cut short, under the zero KID.
+fn zero_kid(bytes: &mut [u8]) {
+    if let Some(kid) = bytes.get_mut(16..32) {
+        kid.fill(0);
+    }
 }
 
 /// Corrects the size field of a box.

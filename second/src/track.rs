@@ -79,6 +79,8 @@ impl Parameters {
         }
         let allowed = match (self.protected, scheme) {
             (0, _) => self.iv_size == 0 && pattern == (0, 0),
+            // 02, Ask 8: "No protected track under the zero KID."
+            (1, _) if self.kid == [0; 16] => false,
             (1, Scheme::Cenc) => matches!(self.iv_size, 8 | 16) && pattern == (0, 0),
             (1, Scheme::Cbc1) => self.iv_size == 16 && pattern == (0, 0),
             (1, Scheme::Cens) => matches!(self.iv_size, 8 | 16) && is_pattern(pattern),
@@ -183,5 +185,20 @@ mod tests {
         assert_eq!(write(&parameters, &mut out), Ok(32));
         assert_eq!(out[..4], [0, 0, 0, 32]);
         assert_eq!(out[32], 7);
+    }
+
+    /// 02, Ask 8: refused, and not a byte is written.
+    #[test]
+    fn nothing_is_written_under_the_zero_kid() {
+        let mut parameters = Parameters {
+            protected: 1,
+            iv_size: 8,
+            ..Parameters::REFUSED
+        };
+        let mut out = [7; 32];
+        assert_eq!(write(&parameters, &mut out), Err(4));
+        assert_eq!(out, [7; 32]);
+        parameters.kid[15] = 1;
+        assert_eq!(write(&parameters, &mut out), Ok(32));
     }
 }

@@ -1,6 +1,6 @@
 //! Lines `aux`, and entries and auxiliary data for other lines.
 
-use super::{any_parameters, box_of, boxes, parameters, Random, KINDS, PROTECTED_KINDS};
+use super::{any_parameters, box_of, boxes, parameters, zero_kid, Random, KINDS, PROTECTED_KINDS};
 use crate::hex::word;
 use crate::subsample::{Entry, LONGEST_SAMPLE};
 use crate::track::Parameters;
@@ -88,10 +88,11 @@ fn faulty(random: &mut Random, p: &Parameters, faults: usize) -> String {
     let mut track_box = box_of(p);
     let mut of_bytes = 0;
     for _ in 0..faults {
-        match random.below(8) {
+        match random.below(9) {
             0 => boxes::damage(random, &mut code, &mut track_box),
             1 => length = random.pick(&[LONGEST_SAMPLE + 1, u64::MAX]),
-            2..=4 => of_bytes += 1,
+            2 => zero_kid(&mut track_box),
+            3..=5 => of_bytes += 1,
             _ => entry_fault(random, &mut entries, &mut length),
         }
     }

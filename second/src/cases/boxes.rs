@@ -1,6 +1,8 @@
 //! Lines `box` and `write`.
 
-use super::{any_parameters, box_of, mend_size, parameters, Random, CODES, KINDS};
+use super::{
+    any_parameters, box_of, mend_size, near_zero_kid, parameters, zero_kid, Random, CODES, KINDS,
+};
 use crate::hex::word;
 use crate::track::Parameters;
 
@@ -9,7 +11,11 @@ pub fn line(random: &mut Random, n: u64) -> String {
     match turn {
         0..=1 => {
             let p = parameters(random, (2 * round + turn as usize) % KINDS.len());
-            box_line(&p.code, &box_of(&p))
+            let mut bytes = box_of(&p);
+            if random.once_in(4) {
+                zero_kid(&mut bytes);
+            }
+            box_line(&p.code, &bytes)
         }
         2..=6 => one_byte_changed(random, 5 * round + turn as usize - 2),
         7 => other_length(random),
@@ -18,7 +24,10 @@ pub fn line(random: &mut Random, n: u64) -> String {
         10 => other_code(random),
         11 => garbage(random),
         12 => {
-            let p = parameters(random, round % KINDS.len());
+            let mut p = parameters(random, round % KINDS.len());
+            if random.once_in(4) {
+                p.kid = [0; 16];
+            }
             write_line(random, &p)
         }
         _ => near_write(random),
@@ -79,7 +88,11 @@ fn edge_fields(random: &mut Random) -> String {
         random.pick(&[0, 1, 1, 1, 2]),
         random.pick(&[0, 0, 8, 8, 16, 16, 7, 9, 15, 17]),
     ]);
-    bytes.extend(random.bytes(16));
+    bytes.extend(match random.below(4) {
+        0 => [0; 16],
+        1 => near_zero_kid(random),
+        _ => random.array(),
+    });
     if random.once_in(2) {
         bytes.push(random.pick(&[16, 16, 16, 8, 0, 17]));
         bytes.extend(random.bytes(16));
@@ -99,12 +112,13 @@ fn several_faults(random: &mut Random) -> String {
     box_line(&code, &bytes)
 }
 
-/// One fault in a code or a box; crypt 0 with a skip is among them.
+/// One fault in a code or a box; crypt 0 with a skip and the zero KID are among them.
 pub fn damage(random: &mut Random, code: &mut Vec<u8>, bytes: &mut Vec<u8>) {
-    match random.below(7) {
+    match random.below(8) {
         0 => change_length(random, bytes),
         1 => *code = random_code(random),
         2 if bytes.len() > 13 => bytes[13] = random.within(1, 15) as u8,
+        3 => zero_kid(bytes),
         _ if bytes.is_empty() => {}
         _ => {
             let place = random.below(bytes.len().min(16));
@@ -180,7 +194,7 @@ fn write_line(random: &mut Random, p: &Parameters) -> String {
 fn near_write(random: &mut Random) -> String {
     let mut p = any_parameters(random);
     for _ in 0..random.below(4) {
-        match random.below(9) {
+        match random.below(10) {
             0 => p.version = random.pick(&[0, 1, 2, 255]),
             1 => p.crypt = small_or_any(random),
             2 => p.skip = small_or_any(random),
@@ -189,6 +203,7 @@ fn near_write(random: &mut Random) -> String {
             5 => p.constant[random.below(16)] ^= 1 << random.below(8),
             6 => p.code = random.pick(&CODES),
             7 => (p.crypt, p.skip) = (0, random.below(17) as u8),
+            8 => p.kid = [0; 16],
             _ => {
                 let place = random.below(4);
                 p.code[place] = random.other_byte(p.code[place]);

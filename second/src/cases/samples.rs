@@ -1,7 +1,7 @@
 //! Lines `lock` and `open`.
 
 use super::auxiliary::{auxiliary, byte_fault, entries, entry_fault, total};
-use super::{any_parameters, box_of, boxes, parameters, Random, KINDS, PROTECTED_KINDS};
+use super::{any_parameters, box_of, boxes, parameters, zero_kid, Random, KINDS, PROTECTED_KINDS};
 use crate::hex::word;
 use crate::subsample::{Entry, LONGEST_SAMPLE};
 use crate::track::Parameters;
@@ -40,6 +40,12 @@ impl Inputs {
             word(&self.keys)
         )
     }
+
+    /// Puts box and key record under the zero KID: 4 and not 6 if the track is protected.
+    pub fn zero_kid(&mut self) {
+        zero_kid(&mut self.track_box);
+        zero_key_kid(&mut self.keys);
+    }
 }
 
 /// Accepted inputs for a protected track; each kind of track has its turn.
@@ -61,11 +67,16 @@ pub fn unprotected(random: &mut Random) -> Inputs {
     inputs
 }
 
-/// Inputs for a length at the edge of what a sample may have; no line can hold such a sample itself.
+/// Inputs for a length at the edge of what a sample may have, some under the zero KID; no line can hold such a
+/// sample itself.
 pub fn longest(random: &mut Random, n: u64) -> Inputs {
     let p = parameters(random, (n / 16) as usize % PROTECTED_KINDS);
     let length = random.pick(&[LONGEST_SAMPLE, LONGEST_SAMPLE + 1, u64::MAX]);
-    inputs(random, &p, &[], length)
+    let mut inputs = inputs(random, &p, &[], length);
+    if random.once_in(8) {
+        inputs.zero_kid();
+    }
+    inputs
 }
 
 /// Inputs with so many faults.
@@ -77,11 +88,13 @@ pub fn faulty(random: &mut Random, n: u64, faults: usize) -> Inputs {
     };
     let (mut entries, mut length) = map(random, &p);
     let (mut of_entries, mut of_bytes, mut of_keys, mut of_box) = (0, 0, 0, 0);
+    let mut under_zero_kid = false;
     for _ in 0..faults {
-        match random.below(8) {
+        match random.below(9) {
             0..=1 => of_keys += 1,
             2..=3 => of_box += 1,
             4 => of_bytes += 1,
+            5 => under_zero_kid = true,
             _ => of_entries += 1,
         }
     }
@@ -89,6 +102,9 @@ pub fn faulty(random: &mut Random, n: u64, faults: usize) -> Inputs {
         entry_fault(random, &mut entries, &mut length);
     }
     let mut inputs = inputs(random, &p, &entries, length);
+    if under_zero_kid {
+        inputs.zero_kid();
+    }
     for _ in 0..of_bytes {
         byte_fault(random, &p, &mut inputs.aux);
     }
@@ -138,12 +154,20 @@ pub fn map(random: &mut Random, p: &Parameters) -> (Vec<Entry>, u64) {
     (entries, length)
 }
 
-/// A key record of another length, or for another KID.
+/// A key record of another length, or for another KID, the zero KID too.
 fn key_fault(random: &mut Random, keys: &mut Vec<u8>) {
-    match random.below(3) {
+    match random.below(4) {
         0 => keys.resize(random.pick(&[0, 16, 31, 33, 64]), 0),
         1 => keys.truncate(keys.len().saturating_sub(1)),
+        2 => zero_key_kid(keys),
         _ if keys.len() < 16 => keys.clear(),
         _ => keys[random.below(16)] ^= 1 << random.below(8),
+    }
+}
+
+/// Puts a key record, whole or cut short, under the zero KID.
+fn zero_key_kid(keys: &mut [u8]) {
+    if let Some(kid) = keys.get_mut(..16) {
+        kid.fill(0);
     }
 }

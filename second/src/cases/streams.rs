@@ -24,7 +24,10 @@ pub fn line(random: &mut Random, n: u64) -> String {
             stream_line(random, &inputs, single_bytes)
         }
         4..=7 => {
-            let inputs = samples::well_formed(random, n);
+            let mut inputs = samples::well_formed(random, n);
+            if random.once_in(8) {
+                inputs.zero_kid();
+            }
             stream_line(random, &inputs, mixed)
         }
         8 => {
@@ -241,7 +244,7 @@ fn position(random: &mut Random, entries: &[Entry], length: u64) -> u64 {
 /// A change that mostly makes a record unsound.
 fn fault(random: &mut Random, record: &mut Record) {
     let p = &mut record.parameters;
-    match random.below(17) {
+    match random.below(19) {
         0 => p.code = random.pick(&CODES),
         1 => p.code[random.below(4)] ^= 1 << random.below(8),
         2 => p.version = random.pick(&[0, 1, 2, 255]),
@@ -251,11 +254,12 @@ fn fault(random: &mut Random, record: &mut Record) {
         6 => p.iv_size = random.pick(&[0, 8, 16, 17]),
         7 => p.constant[random.below(16)] ^= 1,
         8 => (p.crypt, p.skip) = (0, random.pick(&[1, 9, 15])),
-        9 => record.length = near(random, record.length, LONGEST_SAMPLE + 1),
-        10 => record.map.count = near(random, record.map.count, 65),
-        11 => record.map.entries[0] = Entry::ZERO,
-        12 => record.map.entries[0].protected ^= random.pick(&[1, 16]),
-        13 => record.position = near(random, record.position, record.length.wrapping_add(1)),
+        9..=10 => p.kid = [0; 16],
+        11 => record.length = near(random, record.length, LONGEST_SAMPLE + 1),
+        12 => record.map.count = near(random, record.map.count, 65),
+        13 => record.map.entries[0] = Entry::ZERO,
+        14 => record.map.entries[0].protected ^= random.pick(&[1, 16]),
+        15 => record.position = near(random, record.position, record.length.wrapping_add(1)),
         _ => record.held_count = near(random, record.held_count, 16),
     }
 }
