@@ -251,27 +251,39 @@ boxUnder protected ivSize kid = 0 ∷ 0 ∷ 0 ∷ 32 ∷ tenc ++ (0 ∷ 0 ∷ 0 
 abbrev constantBoxUnder : List ℕ → List ℕ
 constantBoxUnder kid = 0 ∷ 0 ∷ 0 ∷ 49 ∷ tenc ++ (0 ∷ 0 ∷ 0 ∷ 0 ∷ 0 ∷ 0 ∷ 1 ∷ 0 ∷ kid ++ (16 ∷ replicate 16 0xaa))
 
--- What is answered, under a code, to the zero KID and to KIDs of which only the first, a middle or the last byte isn't zero: to who reads
--- such a box, and to who writes what it says.
-abbrev kidsTried : List (List ℕ)
-kidsTried = zeros ∷ (1 ∷ replicate 15 0) ∷ (replicate 7 0 ++ (1 ∷ replicate 8 0)) ∷ (replicate 15 0 ++ (1 ∷ [])) ∷ []
+-- KIDs of which only one byte isn't zero: the first, the eighth, the last.
+abbrev firstOnly : List ℕ
+firstOnly = 1 ∷ replicate 15 0
 
-abbrev answersToKids : List ℕ → (List ℕ → List ℕ) → List ℕ
-answersToKids code box =
-    map (λ kid. answer (readRows code (box kid))) kidsTried ++ map (λ kid. answer (writeRows (fields code (box kid)) 49)) kidsTried
+abbrev eighthOnly : List ℕ
+eighthOnly = replicate 7 0 ++ (1 ∷ replicate 8 0)
 
-pub kidExamples : List Case
-kidExamples =
-    -- "KIDs of sixteen zero bytes on protected tracks. Refuse them as 4"; "The writers refuse alike."
-    is (answersToKids cenc (boxUnder 1 8)) (4 ∷ 0 ∷ 0 ∷ 0 ∷ 4 ∷ 0 ∷ 0 ∷ 0 ∷ [])
-    ∷ is (answersToKids cbc1 (boxUnder 1 16)) (4 ∷ 0 ∷ 0 ∷ 0 ∷ 4 ∷ 0 ∷ 0 ∷ 0 ∷ [])
-    ∷ is (answersToKids cens (boxUnder 1 8)) (4 ∷ 0 ∷ 0 ∷ 0 ∷ 4 ∷ 0 ∷ 0 ∷ 0 ∷ [])
-    ∷ is (answersToKids cbcs constantBoxUnder) (4 ∷ 0 ∷ 0 ∷ 0 ∷ 4 ∷ 0 ∷ 0 ∷ 0 ∷ [])
+abbrev lastOnly : List ℕ
+lastOnly = replicate 15 0 ++ (1 ∷ [])
+
+-- What a call answers to a code and a box.
+abbrev kidCases : (List ℕ → List ℕ → ℕ) → List Case
+kidCases call =
+    -- "KIDs of sixteen zero bytes on protected tracks. Refuse them as 4"
+    is (map (λ kid. call cenc (boxUnder 1 8 kid)) (zeros ∷ firstOnly ∷ eighthOnly ∷ lastOnly ∷ [])) (4 ∷ 0 ∷ 0 ∷ 0 ∷ [])
+    ∷ is (map (λ kid. call cbc1 (boxUnder 1 16 kid)) (zeros ∷ lastOnly ∷ [])) (4 ∷ 0 ∷ [])
+    ∷ is (map (λ kid. call cens (boxUnder 1 8 kid)) (zeros ∷ lastOnly ∷ [])) (4 ∷ 0 ∷ [])
+    ∷ is (map (λ kid. call cbcs (constantBoxUnder kid)) (zeros ∷ lastOnly ∷ [])) (4 ∷ 0 ∷ [])
     -- "Unprotected tracks may keep any KID."
-    ∷ is (answersToKids cenc (boxUnder 0 0)) (replicate 8 0) ∷ is (answersToKids cbc1 (boxUnder 0 0)) (replicate 8 0)
-    ∷ is (answersToKids cens (boxUnder 0 0)) (replicate 8 0) ∷ is (answersToKids cbcs (boxUnder 0 0)) (replicate 8 0) ∷ []
+    ∷ is (map (λ code. call code (boxUnder 0 0 zeros)) (cenc ∷ cbc1 ∷ cens ∷ cbcs ∷ [])) (0 ∷ 0 ∷ 0 ∷ 0 ∷ []) ∷ []
 
-pub kid-examples-hold : Hold kidExamples
-unfolding kidExamples allMade allSaid answer readRows writeRows known same frame.badFrame number badHead badFields allowed allowedFields
+pub kidsRead : List Case
+kidsRead = kidCases (λ code box. answer (readRows code box))
+
+-- "The writers refuse alike": the same, of the parameters that the box says.
+pub kidsWritten : List Case
+kidsWritten = kidCases (λ code box. answer (writeRows (fields code box) 49))
+
+pub kids-read-hold : Hold kidsRead
+unfolding kidsRead allMade allSaid answer readRows known same frame.badFrame number badHead badFields allowed allowedFields
     allowedProtected fields fieldsFrom filled
-kid-examples-hold = refl
+kids-read-hold = refl
+
+pub kids-written-hold : Hold kidsWritten
+unfolding kidsWritten allMade allSaid answer writeRows known same allowed allowedFields allowedProtected fields fieldsFrom filled
+kids-written-hold = refl

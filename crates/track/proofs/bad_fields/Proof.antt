@@ -1,7 +1,8 @@
 -- the place where the fields are allowed and the length that they call for is known
+use mathlib.Core.Bool.{false}
 use mathlib.Core.Path.{_≡_, sym, _∙_}
 use borrow.Author.Tests.{eq-eqb, ne-eqb, not-true, not-false}
-use Rattle.track_spec.specs.Track.{boxLength, badFields}
+use Rattle.track_spec.specs.Track.{allowed, boxLength, badFields}
 use borrow.Author.Needs.{needs}
 use Rattle.track.proofs.bad_fields.Statement.{statement}
 use Rattle.track.proofs.bad_fields.Tie as tie
@@ -11,7 +12,9 @@ sized c = c .before .before
 
 returns : tie.Need-returns
 unfolding badFields
-returns c = rw (sym (c .before .allowed .ensures) ∙ not-true _ (c .if1 .taken))
+returns c =
+    let refused : allowed (c .before .before .before .args .p) ≡ false = sym (c .before .allowed .ensures) ∙ not-true _ (c .if1 .taken) in
+    rw refused
 
 returns-2 : tie.Need-returns-2
 unfolding badFields

@@ -1,6 +1,7 @@
 -- the places: the KID tried, the fields tried, and no constant IV called for
-use mathlib.Core.Path.{sym, _∙_}
-use Rattle.track_spec.specs.Track.{allowed}
+use mathlib.Core.Bool.{true}
+use mathlib.Core.Path.{_≡_, sym, _∙_}
+use Rattle.track_spec.specs.Track.{underZeroKid, allowed}
 use borrow.Author.Needs.{needs}
 use Rattle.track_allowed.proofs.allowed.Statement.{statement}
 use Rattle.track_allowed.proofs.allowed.Tie as tie
@@ -16,7 +17,10 @@ without c = c .before .before .before .before .before
 
 returns : tie.Need-returns
 unfolding allowed
-returns c = rw (sym (c .before .under-zero-kid .ensures) ∙ c .if1 .taken)
+returns c =
+    let p = c .before .before .before .before .before .args .p in
+    let zero : underZeroKid (p .protected) (p .kid .0) ≡ true = sym (c .before .under-zero-kid .ensures) ∙ c .if1 .taken in
+    rw zero
 
 returns-2 : tie.Need-returns-2
 unfolding allowed
