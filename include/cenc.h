@@ -24,7 +24,10 @@ extern "C" {
 /* The bytes of a key record: the KID, then the key, 16 each. */
 #define CENC_KEY_RECORD_LENGTH 32
 
-/* The numbers answered: the lowest that applies. 5 and 6 are skipped for an unprotected track. */
+/*
+ * The numbers answered: the lowest that applies. 5 and 6 are skipped for an unprotected track. Among the fields that aren't
+ * allowed (4) is a KID of sixteen zero bytes on a protected track.
+ */
 enum cenc_number {
     CENC_DONE = 0,                 /* done */
     CENC_REFUSED_SCHEME = 1,       /* the scheme code isn't four bytes naming one of the four */

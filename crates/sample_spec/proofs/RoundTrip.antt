@@ -57,7 +57,7 @@ module _ (E D : Cipher) (d : Direction) (p : Parameters) (m : SubsampleMap) (iv 
 
 module _ (i : Inputs) where
   module _ (d : Direction) (xs : List ℕ) where
-    accepted-after : answered i (length xs) ≡ 0 → sampleAfter d i xs ≡ cipheredBy d i xs
+    pub accepted-after : answered i (length xs) ≡ 0 → sampleAfter d i xs ≡ cipheredBy d i xs
     unfolding sampleAfter
     accepted-after h = rw h
 

@@ -2,3 +2,4 @@ pub mod Sample
 pub mod Counters
 pub mod Depends
 pub mod WholeBlocks
+pub mod ZeroKid

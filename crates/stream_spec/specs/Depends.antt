@@ -9,7 +9,8 @@ use Rattle.stream_spec.specs.declared.Declared.{Declared}
 use Rattle.stream_spec.specs.declared.Stream.{Stream}
 use Rattle.stream_spec.specs.Demand3.{Call, Feeding, Ending}
 
--- What two streams declared, the same but for direction, KID, a constant IV that is called for, and key.
+-- What two streams declared, the same but for direction, KID (those of protected tracks are both zero or both not), a constant IV that is
+-- called for, and key.
 pub record AlikeDeclared (q r : Declared) : Type 0 where
   pub parameters : AlikeParameters (q .parameters) (r .parameters)
   pub length : q .length ≡ r .length

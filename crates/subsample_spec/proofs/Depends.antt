@@ -67,7 +67,7 @@ module _ (code : List ℕ) {x y : List ℕ} (s : AlikeBoxes x y) (n : ℕ) (a b 
         after = h;
       }
 
-  -- the public reader's answer depends neither on the KID nor on IV bytes
+  -- the public reader's answer depends on the KID only by whether that of a protected track is zero, and not on IV bytes
   pub reader-alike : answer (readRows code x ++ auxiliaryRows (fields code x) a n)
       ≡ answer (readRows code y ++ auxiliaryRows (fields code y) b n)
   reader-alike =
