@@ -8,13 +8,14 @@ use lib.Dec.{eqb}
 use lib.ListN.{length, drop}
 use borrow.Author.Tests.{eqb-true, ne-eqb, eq-eqb, not-false}
 use Rattle.octets.specs.Answers.{answer}
-use Rattle.octets.proofs.Answers.{done-head}
-use Rattle.track_spec.specs.Track.{zeroKid, Held, unprotected, readBox, writeBox}
+use Rattle.octets.proofs.Answers.{done-head, join-first}
+use Rattle.modes_spec.specs.declared.Direction.{Direction}
+use Rattle.track_spec.specs.Track.{zeroKid, Held, readRows, unprotected, readBox, writeBox}
 use Rattle.track_spec.specs.ZeroKid.{NonzeroIfProtected}
 use Rattle.track_spec.proofs.Codes.{allowed-kid}
 use Rattle.track_spec.proofs.Checking.{check-allowed}
 use Rattle.track_spec.proofs.ZeroKid.{read-nonzero, checked-nonzero, written-nonzero}
-use Rattle.modes_spec.specs.declared.Direction.{Direction}
+use Rattle.subsample_spec.specs.Auxiliary.{handedOut, readAuxiliary}
 use Rattle.scheme.specs.Machine.{Stepped}
 use Rattle.scheme.proofs.Under.{clear-fed, clear-held}
 use Rattle.sample_spec.specs.Sample.{Inputs, ivOf, sampleRows}
@@ -87,12 +88,13 @@ module _ (t : Stream) (piece out : List ℕ) (z : zeroKid (parametersIn t .kid .
   passes = rw (h, all-released, all-due)
 
 pub none-under-zero-kid : NoneUnderZeroKid
-unfolding writeBox feed
+unfolding writeBox readAuxiliary handedOut feed
 none-under-zero-kid =
     record {
       read = read-parameters;
       checked = checked-nonzero;
       written = λ p room held h. written-nonzero p held room h;
+      data-read = λ code box auxiliary n h. read-nonzero code box (join-first (readRows code box) _ h);
       sample = sample-nonzero;
       started = started-nonzero;
       sound = sound-nonzero;

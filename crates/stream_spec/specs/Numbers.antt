@@ -10,7 +10,7 @@ use Rattle.octets.specs.Bytes.{digits, filled}
 use Rattle.octets.specs.Cases.{Case, is, Hold, span}
 use Rattle.modes_spec.specs.declared.Direction.the-variants.{Lock, Open}
 use Rattle.track_spec.specs.declared.Parameters.{Parameters}
-use Rattle.track_spec.specs.Track.{cenc, cbc1, cens, cbcs, tenc, zeros, unprotected, readBox, parameterRows, writeBox}
+use Rattle.track_spec.specs.Track.{cenc, cbc1, cens, cbcs, tenc, zeros, unprotected, readBox, parameterRows, writeBox, firstOnly, lastOnly}
 use Rattle.subsample_spec.specs.declared.SubsampleMap.{SubsampleMap}
 use Rattle.subsample_spec.specs.Auxiliary.{limit, emptyMap, mapRows, readUnder, readAuxiliary}
 use Rattle.scheme.specs.Layout.{Entry, entry}
@@ -97,16 +97,11 @@ boxes =
     ∷ gives (ofBox cenc (boxWith 32 tenc (2 ∷ 0 ∷ 0 ∷ 0 ∷ 0 ∷ 0 ∷ 1 ∷ 7 ∷ []) []) eight) 3
     ∷ []
 
--- Document 02, Ask 8: a box of each scheme and the key record for it, under a KID, with what is answered.
-abbrev pub firstOnly : List ℕ
-firstOnly = 1 ∷ replicate 15 0
-
-abbrev pub lastOnly : List ℕ
-lastOnly = replicate 15 0 ++ (1 ∷ [])
-
+-- Document 02, Ask 8: a box, and the key record for it, under a KID.
 abbrev pub ofKid : List ℕ → List ℕ → List ℕ → List ℕ → Given
 ofKid kid code box auxiliary = given code box auxiliary (keysUnder kid) 5
 
+-- A protected track of each scheme, and an unprotected one under each code, with what is answered to all of them.
 abbrev pub protectedUnder : List ℕ → ℕ → List (Asked Given)
 protectedUnder kid number =
     gives (ofKid kid cenc (ivBoxUnder kid 0 0 8) eight) number

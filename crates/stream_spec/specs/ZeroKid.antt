@@ -8,8 +8,9 @@ use lib.ListN.{length, drop}
 use Rattle.octets.specs.Answers.{answer}
 use Rattle.modes_spec.specs.declared.Direction.{Direction}
 use Rattle.track_spec.specs.declared.Parameters.{Parameters}
-use Rattle.track_spec.specs.Track.{zeroKid, Held, readBox, parameterRows, writeBox}
+use Rattle.track_spec.specs.Track.{zeroKid, Held, fields, readBox, parameterRows, writeBox}
 use Rattle.track_spec.specs.ZeroKid.{NonzeroIfProtected}
+use Rattle.subsample_spec.specs.Auxiliary.{readAuxiliary}
 use Rattle.sample_spec.specs.Sample.{Inputs, parametersOf, answered, sampleAfter}
 use Rattle.stream_spec.specs.declared.Stream.{Stream}
 use Rattle.stream_spec.specs.Stream.{sound, start, feed, outputAfter, end}
@@ -23,7 +24,9 @@ pub record NoneUnderZeroKid : Type 0 where
   pub read : (code box : List ℕ) → readBox code box .answer ≡ 0 → NonzeroIfProtected (readBox code box .parameters)
   pub checked : (p : Parameters) → Held p → answer (parameterRows p) ≡ 0 → NonzeroIfProtected p
   pub written : (p : Parameters) (room : ℕ) → Held p → writeBox p room .answer ≡ 0 → NonzeroIfProtected p
-  -- the inputs of a sample,
+  -- a box with auxiliary data, the inputs of a sample,
+  pub data-read : (code box auxiliary : List ℕ) (n : ℕ) → readAuxiliary code box auxiliary n .answer ≡ 0
+      → NonzeroIfProtected (fields code box)
   pub sample : (i : Inputs) (n : ℕ) → answered i n ≡ 0 → NonzeroIfProtected (parametersOf i)
   -- the record of a start, refused or not, a sound record, and one that a piece or an end is accepted on.
   pub started : (d : Direction) (i : Inputs) (n : ℕ) → NonzeroIfProtected (parametersIn (start d i n .stream))

@@ -252,13 +252,13 @@ abbrev constantBoxUnder : List ℕ → List ℕ
 constantBoxUnder kid = 0 ∷ 0 ∷ 0 ∷ 49 ∷ tenc ++ (0 ∷ 0 ∷ 0 ∷ 0 ∷ 0 ∷ 0 ∷ 1 ∷ 0 ∷ kid ++ (16 ∷ replicate 16 0xaa))
 
 -- KIDs of which only one byte isn't zero: the first, the eighth, the last.
-abbrev firstOnly : List ℕ
+abbrev pub firstOnly : List ℕ
 firstOnly = 1 ∷ replicate 15 0
 
 abbrev eighthOnly : List ℕ
 eighthOnly = replicate 7 0 ++ (1 ∷ replicate 8 0)
 
-abbrev lastOnly : List ℕ
+abbrev pub lastOnly : List ℕ
 lastOnly = replicate 15 0 ++ (1 ∷ [])
 
 -- What a call answers to a code and a box.
