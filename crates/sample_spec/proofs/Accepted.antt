@@ -74,7 +74,7 @@ module _ (i : Inputs) (n : ℕ) (h : answer (sampleRows i n) ≡ 0) where
   unfolding parametersOf fields fieldsFrom
   known-code = accepted (i .code) (i .box) (box-accepted i n h) .known-code
 
-  permitted : allowed p ≡ true
+  pub permitted : allowed p ≡ true
   unfolding parametersOf
   permitted = accepted (i .code) (i .box) (box-accepted i n h) .permitted
 

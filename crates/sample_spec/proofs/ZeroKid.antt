@@ -1,22 +1,20 @@
 -- A whole-sample call that is accepted is not under the zero KID, and under the zero KID nothing is ciphered; what was locked under it comes
 -- back under another KID.
-use mathlib.Core.Bool.{Bool, true, false, false≢true}
+use mathlib.Core.Bool.{Bool, true, false}
 use mathlib.Core.List.{List}
 use mathlib.Core.Path.{_≡_, refl, sym, ap, _∙_}
 use Prim.Native.Nat.{ℕ, _<_}
 use native.Mathlib.Omega.{arith}
 use lib.Dec.{eqb}
 use lib.ListN.{length, getD}
-use borrow.Author.Tests.{eqb-true, eqb-false, eq-eqb}
+use borrow.Author.Tests.{eqb-true, eqb-false}
 use Rattle.octets.proofs.Alike.{filled-alike}
 use Rattle.modes_spec.specs.declared.Direction.{Direction}
 use Rattle.modes_spec.specs.Undone.{back}
 use Rattle.track_spec.specs.declared.Parameters.{Parameters}
 use Rattle.track_spec.specs.Track.{zeroKid, fieldsFrom, fields}
 use Rattle.track_spec.specs.ZeroKid.{NonzeroIfProtected}
-use Rattle.track_spec.proofs.Codes.{allowed-kid}
-use Rattle.track_spec.proofs.RoundTrip.{accepted}
-use Rattle.track_spec.proofs.ZeroKid.{read-nonzero}
+use Rattle.track_spec.proofs.ZeroKid.{read-nonzero, zero-kid-unprotected}
 use Rattle.subsample_spec.specs.Auxiliary.{ivRead}
 use Rattle.subsample_spec.specs.Depends.{AlikeData}
 use Rattle.subsample_spec.proofs.Depends.{map-alike}
@@ -25,6 +23,7 @@ use Rattle.scheme.proofs.SamePattern.{ciphered-same}
 use Rattle.sample_spec.specs.Sample.{Inputs, OfBytes, keyIn, parametersOf, keyOf, mapOf, ivOf, answered, cipheredBy, sampleAfter}
 use Rattle.sample_spec.specs.ZeroKid.{OtherKid}
 use Rattle.sample_spec.proofs.Tables.{box-accepted}
+use Rattle.sample_spec.proofs.Accepted.{permitted}
 use Rattle.sample_spec.proofs.RoundTrip.{accepted-after, refused-stays, unprotected-stays, given-back}
 
 module _ (i : Inputs) where
@@ -32,21 +31,15 @@ module _ (i : Inputs) where
   unfolding parametersOf
   sample-nonzero n h = read-nonzero (i .code) (i .box) (box-accepted i n h)
 
-  module _ (z : zeroKid (parametersOf i .kid .0) ≡ true) where
-    -- where the call is accepted the track is not protected
-    zero-kid-unprotected : (n : ℕ) → answered i n ≡ 0 → parametersOf i .protected ≡ 1 → ⊥
-    unfolding parametersOf
-    zero-kid-unprotected n h one =
-        let k = allowed-kid (parametersOf i) (accepted (i .code) (i .box) (box-accepted i n h) .permitted) in
-        false≢true (sym k ∙ rw (eq-eqb (parametersOf i .protected) 1 one, z))
-
-    -- the sample stays as it is, whatever is answered
-    pub zero-kid-stays : (d : Direction) (xs : List ℕ) → sampleAfter d i xs ≡ xs
-    zero-kid-stays d xs = go (eqb (answered i (length xs)) 0) refl
-      where
-        go : (t : Bool) → eqb (answered i (length xs)) 0 ≡ t → sampleAfter d i xs ≡ xs
-        go true e = unprotected-stays i d xs (zero-kid-unprotected (length xs) (eqb-true (answered i (length xs)) 0 e))
-        go false e = refused-stays i d xs (eqb-false (answered i (length xs)) 0 e)
+  -- under the zero KID the sample stays as it is, whatever is answered
+  pub zero-kid-stays : zeroKid (parametersOf i .kid .0) ≡ true → (d : Direction) (xs : List ℕ) → sampleAfter d i xs ≡ xs
+  zero-kid-stays z d xs = go (eqb (answered i (length xs)) 0) refl
+    where
+      go : (t : Bool) → eqb (answered i (length xs)) 0 ≡ t → sampleAfter d i xs ≡ xs
+      go true e =
+          let h = permitted i (length xs) (eqb-true (answered i (length xs)) 0 e) in
+          unprotected-stays i d xs (zero-kid-unprotected (parametersOf i) h z)
+      go false e = refused-stays i d xs (eqb-false (answered i (length xs)) 0 e)
 
 -- ---- A sample that was locked under the zero KID.
 

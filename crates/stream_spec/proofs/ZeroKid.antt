@@ -1,20 +1,19 @@
 -- No call that answers 0 ciphers under the zero KID.
-use mathlib.Core.Bool.{Bool, true, false, cond, false≢true}
+use mathlib.Core.Bool.{Bool, true, false, cond}
 use mathlib.Core.List.{List, _++_}
-use mathlib.Core.Path.{_≡_, refl, sym, ap, _∙_}
+use mathlib.Core.Path.{_≡_, refl, ap}
 use Prim.Native.Nat.{ℕ, _+_}
 use native.Mathlib.Omega.{arith}
 use lib.Dec.{eqb}
 use lib.ListN.{length, drop}
-use borrow.Author.Tests.{eqb-true, ne-eqb, eq-eqb, not-false}
+use borrow.Author.Tests.{eqb-true, ne-eqb, not-false}
 use Rattle.octets.specs.Answers.{answer}
 use Rattle.octets.proofs.Answers.{done-head, join-first}
 use Rattle.modes_spec.specs.declared.Direction.{Direction}
 use Rattle.track_spec.specs.Track.{zeroKid, Held, readRows, unprotected, readBox, writeBox}
 use Rattle.track_spec.specs.ZeroKid.{NonzeroIfProtected}
-use Rattle.track_spec.proofs.Codes.{allowed-kid}
 use Rattle.track_spec.proofs.Checking.{check-allowed}
-use Rattle.track_spec.proofs.ZeroKid.{read-nonzero, checked-nonzero, written-nonzero}
+use Rattle.track_spec.proofs.ZeroKid.{read-nonzero, checked-nonzero, written-nonzero, zero-kid-unprotected}
 use Rattle.subsample_spec.specs.Auxiliary.{handedOut, readAuxiliary}
 use Rattle.scheme.specs.Machine.{Stepped}
 use Rattle.scheme.proofs.Under.{clear-fed, clear-held}
@@ -55,10 +54,7 @@ end-sound t h = not-false (sound t) (done-head 13 _ _ (omega arith) h)
 unprotected-record : (t : Stream) → zeroKid (parametersIn t .kid .0) ≡ true → sound t ≡ true → eqb (parametersIn t .protected) 1 ≡ false
 unprotected-record t z ok =
     ne-eqb (parametersIn t .protected) 1
-    (λ one.
-    false≢true
-    (sym (allowed-kid (parametersIn t) (check-allowed (parametersIn t) (sound-rules t ok .parameters)))
-    ∙ rw (eq-eqb (parametersIn t .protected) 1 one, z)))
+    (zero-kid-unprotected (parametersIn t) (check-allowed (parametersIn t) (sound-rules t ok .parameters)) z)
 
 -- so that nothing is held, and what comes out is the piece
 module _ (t : Stream) (piece out : List ℕ) (z : zeroKid (parametersIn t .kid .0) ≡ true)

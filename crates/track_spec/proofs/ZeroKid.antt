@@ -1,7 +1,7 @@
 -- A track that is accepted is not protected under the zero KID; one that is gets 4.
-use mathlib.Core.Bool.{Bool, true, false, true≢false}
+use mathlib.Core.Bool.{Bool, true, false, false≢true, true≢false}
 use mathlib.Core.List.{List, [], _∷_}
-use mathlib.Core.Path.{_≡_, refl, sym}
+use mathlib.Core.Path.{_≡_, refl, sym, _∙_}
 use Prim.Native.Nat.{ℕ, zero, suc}
 use native.Mathlib.Omega.{arith}
 use lib.Dec.{eqb}
@@ -13,7 +13,7 @@ use Rattle.octets.proofs.Answers.{join-first}
 use Rattle.octets.proofs.OfBytes.{filled-length}
 use Rattle.boxes.specs.Box as frame
 use Rattle.track_spec.specs.declared.Parameters.{Parameters}
-use Rattle.track_spec.specs.Track.{tenc, known, underZeroKid, allowed, Held, badVersion, fieldsFrom, fields, badHead, badFields, readRows, parameterRows, writeRows}
+use Rattle.track_spec.specs.Track.{tenc, known, zeroKid, underZeroKid, allowed, Held, badVersion, fieldsFrom, fields, badHead, badFields, readRows, parameterRows, writeRows}
 use Rattle.track_spec.specs.ZeroKid.{NonzeroKid, NonzeroIfProtected}
 use Rattle.track_spec.proofs.Fields.{constant-length}
 use Rattle.track_spec.proofs.Codes.{allowed-kid}
@@ -54,6 +54,10 @@ read-nonzero code box h =
     allowed-nonzero (fields code box)
     (record { kid = filled-length 16 _; constant = constant-length 12 code (frame.version box) box })
     (accepted code box h .permitted)
+
+-- under the zero KID such a track is not protected
+pub zero-kid-unprotected : (p : Parameters) → allowed p ≡ true → zeroKid (p .kid .0) ≡ true → p .protected ≡ 1 → ⊥
+zero-kid-unprotected p h z one = false≢true (sym (allowed-kid p h) ∙ rw (eq-eqb (p .protected) 1 one, z))
 
 -- ---- Refused: under the zero KID a protected track that none of 1 to 3 applies to gets 4.
 
