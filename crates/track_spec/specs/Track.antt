@@ -197,16 +197,23 @@ afterWriting p out =
 
 -- ---- Worked examples: the box of document 01, "The sheet program", and document 02, Ask 2.
 
--- Boxes of protected tracks with a constant IV and with IVs of 16 bytes, in a version and with a pattern byte.
-abbrev constantBox : ℕ → ℕ → List ℕ
-constantBox version pattern =
+-- Boxes under a KID, in a version and with a pattern byte: of a protected track with a constant IV, and of a track with a protected flag
+-- and an IV size.
+abbrev constantBoxUnder : List ℕ → ℕ → ℕ → List ℕ
+constantBoxUnder kid version pattern =
     0x00 ∷ 0x00 ∷ 0x00 ∷ 0x31 ∷ 0x74 ∷ 0x65 ∷ 0x6e ∷ 0x63 ∷ version ∷ 0x00 ∷ 0x00 ∷ 0x00 ∷ 0x00 ∷ pattern ∷ 0x01 ∷ 0x00
-    ∷ span 0 16 ++ (0x10 ∷ replicate 16 0xaa)
+    ∷ kid ++ (0x10 ∷ replicate 16 0xaa)
+
+abbrev boxUnder : List ℕ → ℕ → ℕ → ℕ → ℕ → List ℕ
+boxUnder kid version pattern protected ivSize =
+    0x00 ∷ 0x00 ∷ 0x00 ∷ 0x20 ∷ 0x74 ∷ 0x65 ∷ 0x6e ∷ 0x63 ∷ version ∷ 0x00 ∷ 0x00 ∷ 0x00 ∷ 0x00 ∷ pattern ∷ protected ∷ ivSize ∷ kid
+
+-- Those of protected tracks under KID 00 to 0f, with a constant IV and with IVs of 16 bytes.
+abbrev constantBox : ℕ → ℕ → List ℕ
+constantBox = constantBoxUnder (span 0 16)
 
 abbrev ivBox : ℕ → ℕ → List ℕ
-ivBox version pattern =
-    0x00 ∷ 0x00 ∷ 0x00 ∷ 0x20 ∷ 0x74 ∷ 0x65 ∷ 0x6e ∷ 0x63 ∷ version ∷ 0x00 ∷ 0x00 ∷ 0x00 ∷ 0x00 ∷ pattern ∷ 0x01 ∷ 0x10
-    ∷ span 0 16
+ivBox version pattern = boxUnder (span 0 16) version pattern 1 16
 
 abbrev sheetBox : List ℕ
 sheetBox = constantBox 0x01 0x19
@@ -244,13 +251,6 @@ examples-hold = refl
 
 -- ---- Worked examples: document 02, Ask 8.
 
--- Boxes in version 0, with a protected flag, an IV size and a KID, and of a protected track with a constant IV.
-abbrev boxUnder : ℕ → ℕ → List ℕ → List ℕ
-boxUnder protected ivSize kid = 0 ∷ 0 ∷ 0 ∷ 32 ∷ tenc ++ (0 ∷ 0 ∷ 0 ∷ 0 ∷ 0 ∷ 0 ∷ protected ∷ ivSize ∷ kid)
-
-abbrev constantBoxUnder : List ℕ → List ℕ
-constantBoxUnder kid = 0 ∷ 0 ∷ 0 ∷ 49 ∷ tenc ++ (0 ∷ 0 ∷ 0 ∷ 0 ∷ 0 ∷ 0 ∷ 1 ∷ 0 ∷ kid ++ (16 ∷ replicate 16 0xaa))
-
 -- KIDs of which only one byte isn't zero: the first, the eighth, the last.
 abbrev pub firstOnly : List ℕ
 firstOnly = 1 ∷ replicate 15 0
@@ -261,16 +261,16 @@ eighthOnly = replicate 7 0 ++ (1 ∷ replicate 8 0)
 abbrev pub lastOnly : List ℕ
 lastOnly = replicate 15 0 ++ (1 ∷ [])
 
--- What a call answers to a code and a box.
+-- What a call answers to a code and a box in version 0.
 abbrev kidCases : (List ℕ → List ℕ → ℕ) → List Case
 kidCases call =
     -- "KIDs of sixteen zero bytes on protected tracks. Refuse them as 4"
-    is (map (λ kid. call cenc (boxUnder 1 8 kid)) (zeros ∷ firstOnly ∷ eighthOnly ∷ lastOnly ∷ [])) (4 ∷ 0 ∷ 0 ∷ 0 ∷ [])
-    ∷ is (map (λ kid. call cbc1 (boxUnder 1 16 kid)) (zeros ∷ lastOnly ∷ [])) (4 ∷ 0 ∷ [])
-    ∷ is (map (λ kid. call cens (boxUnder 1 8 kid)) (zeros ∷ lastOnly ∷ [])) (4 ∷ 0 ∷ [])
-    ∷ is (map (λ kid. call cbcs (constantBoxUnder kid)) (zeros ∷ lastOnly ∷ [])) (4 ∷ 0 ∷ [])
+    is (map (λ kid. call cenc (boxUnder kid 0 0 1 8)) (zeros ∷ firstOnly ∷ eighthOnly ∷ lastOnly ∷ [])) (4 ∷ 0 ∷ 0 ∷ 0 ∷ [])
+    ∷ is (map (λ kid. call cbc1 (boxUnder kid 0 0 1 16)) (zeros ∷ lastOnly ∷ [])) (4 ∷ 0 ∷ [])
+    ∷ is (map (λ kid. call cens (boxUnder kid 0 0 1 8)) (zeros ∷ lastOnly ∷ [])) (4 ∷ 0 ∷ [])
+    ∷ is (map (λ kid. call cbcs (constantBoxUnder kid 0 0)) (zeros ∷ lastOnly ∷ [])) (4 ∷ 0 ∷ [])
     -- "Unprotected tracks may keep any KID."
-    ∷ is (map (λ code. call code (boxUnder 0 0 zeros)) (cenc ∷ cbc1 ∷ cens ∷ cbcs ∷ [])) (0 ∷ 0 ∷ 0 ∷ 0 ∷ []) ∷ []
+    ∷ is (map (λ code. call code (boxUnder zeros 0 0 0 0)) (cenc ∷ cbc1 ∷ cens ∷ cbcs ∷ [])) (0 ∷ 0 ∷ 0 ∷ 0 ∷ []) ∷ []
 
 pub kidsRead : List Case
 kidsRead = kidCases (λ code box. answer (readRows code box))
