@@ -23,7 +23,7 @@ demo:
 	@tests/archive
 	@echo 'A file locked and opened in pieces, and the sheet of its box:'
 	@examples/feeder/run
-	@echo 'A buffer locked and opened from C, and a track whose key rolls:'
+	@echo 'A buffer locked and opened from C:'
 	@examples/c/run
 
 bench:

@@ -14,14 +14,9 @@
 #include <sys/mman.h>
 #include <time.h>
 
-enum { SCHEME, BOX, ENTRY, AUXILIARY, KEYS, SAMPLE, RANGES };
+enum { SCHEME, BOX, AUXILIARY, KEYS, SAMPLE, RANGES };
 
 enum { SHORT = 8192, LINE = 120000, MARGIN = 32, FILLED = 0xa5 };
-
-/* The fields that a group entry is and a box ends with: where they begin in a box, the places of some, and their length. */
-enum { FIELDS = 12, PATTERN = 1, PROTECTED = 2, IV_SIZE = 3, KID = 4, CONSTANT = 20, SHORT_FIELDS = 20, LONG_FIELDS = 37 };
-
-enum { RECORD = CENC_KEY_RECORD_LENGTH, MOST_RECORDS = CENC_MAX_KEY_RECORDS };
 
 /* Small xorshift. */
 static uint64_t state;
@@ -103,147 +98,32 @@ static const struct kind {
 
 enum { PROTECTED_KINDS = 14, KINDS = sizeof kinds / sizeof *kinds };
 
-/* The fields of a kind, in a box of this version or a group entry, which has version 1; answers their length. */
-static size_t make_fields(const struct kind *kind, int version, uint8_t *fields) {
+static void make_box(const struct kind *kind) {
     static const uint8_t crypts[] = {1, 1, 1, 2, 5, 14, 15}, skips[] = {0, 0, 1, 2, 9, 9, 15};
-    memset(fields, 0, SHORT_FIELDS);
-    /* In version 0 the pattern is 0:0, in version 1 sometimes. */
-    if (version == 1 && kind->protected == 1 && kind->code[3] == 's' && !once_in(4)) {
-        fields[PATTERN] = (uint8_t)(PICK(crypts) << 4);
-        fields[PATTERN] |= PICK(skips);
-    }
-    fields[PROTECTED] = kind->protected;
-    fields[IV_SIZE] = kind->iv_size;
-    /* A KID of zeros but for one byte, sometimes; where nothing is protected, that byte may be zero too. */
-    if (once_in(8)) {
-        fields[KID + below(16)] = (uint8_t)(kind->protected == 1 ? 1 + below(255) : below(2));
-    } else {
-        fill(fields + KID, 16);
-    }
-    if (kind->protected == 0 || kind->iv_size > 0) {
-        return SHORT_FIELDS;
-    }
-    fields[CONSTANT] = 16;
-    fill(fields + CONSTANT + 1, 16);
-    return LONG_FIELDS;
-}
-
-/* What a box has before its fields. */
-static void put_header(uint8_t *box, size_t length, uint8_t version) {
-    memset(box, 0, FIELDS);
+    int constant = kind->protected == 1 && kind->iv_size == 0;
+    uint8_t *box = made[BOX].bytes;
+    size_t length = constant ? 49 : 32;
+    made[BOX].length = length;
+    memset(box, 0, length);
     put(box, 4, length);
     memcpy(box + 4, "tenc", 4);
-    box[8] = version;
-}
-
-static void make_box(const struct kind *kind) {
-    made[BOX].length = FIELDS + make_fields(kind, kind->version, made[BOX].bytes + FIELDS);
-    put_header(made[BOX].bytes, made[BOX].length, kind->version);
-}
-
-/* A box of the kind and no group entry, or a group entry of the kind, sometimes under the box's KID, and a box of its scheme. */
-static void make_parameters(const struct kind *kind) {
-    made[ENTRY].length = 0;
-    if (once_in(2)) {
-        make_box(kind);
-        return;
+    box[8] = kind->version;
+    /* In version 0 the pattern is 0:0, in version 1 sometimes. */
+    if (kind->version == 1 && kind->protected == 1 && kind->code[3] == 's' && !once_in(4)) {
+        box[13] = (uint8_t)(PICK(crypts) << 4);
+        box[13] |= PICK(skips);
     }
-    const struct kind *other;
-    do {
-        other = &kinds[below(KINDS)];
-    } while (strcmp(other->code, kind->code) != 0);
-    make_box(other);
-    made[ENTRY].length = make_fields(kind, 1, made[ENTRY].bytes);
-    if (other->protected == 1 && once_in(8)) {
-        memcpy(made[ENTRY].bytes + KID, made[BOX].bytes + FIELDS + KID, 16);
+    box[14] = kind->protected;
+    box[15] = kind->iv_size;
+    /* A KID of zeros but for one byte, sometimes; where the track isn't protected, that byte may be zero too. */
+    if (once_in(8)) {
+        box[16 + below(16)] = (uint8_t)(kind->protected == 1 ? 1 + below(255) : below(2));
+    } else {
+        fill(box + 16, 16);
     }
-}
-
-/* The fields of the parameters that apply: the group entry's if there is one, else the box's. */
-static const uint8_t *applying(void) {
-    return made[ENTRY].length > 0 ? made[ENTRY].bytes : made[BOX].bytes + FIELDS;
-}
-
-/* Key record n, which its KID begins. */
-static uint8_t *record(size_t n) {
-    return made[KEYS].bytes + RECORD * n;
-}
-
-/* How many of the first key records have the KID. */
-static size_t having(size_t count, const uint8_t *kid) {
-    size_t found = 0;
-    for (size_t n = 0; n < count; n++) {
-        found += memcmp(record(n), kid, 16) == 0;
-    }
-    return found;
-}
-
-/* So many key records, at least one, with KIDs that differ; the one that applies is at any place. */
-static void make_keys(size_t count) {
-    made[KEYS].length = RECORD * count;
-    fill(made[KEYS].bytes, made[KEYS].length);
-    memcpy(record(0), applying() + KID, 16);
-    for (size_t n = 1; n < count; n++) {
-        if (once_in(2)) {
-            memcpy(record(n), record(0), 16);
-            record(n)[below(16)] ^= (uint8_t)(1 << below(8));
-        } else if (once_in(8)) {
-            memcpy(record(n), made[BOX].bytes + FIELDS + KID, 16);
-        } else if (once_in(8)) {
-            memset(record(n), 0, 16);
-        }
-        if (having(n, record(n)) > 0) {
-            fill(record(n), 16);
-        }
-    }
-    uint8_t first[RECORD];
-    size_t place = below(count);
-    memcpy(first, record(0), RECORD);
-    memmove(record(0), record(place), RECORD);
-    memcpy(record(place), first, RECORD);
-}
-
-/* Puts the key record that applies under another KID, if there is one. */
-static void rename_record(const uint8_t *kid) {
-    for (size_t n = 0; n < made[KEYS].length / RECORD; n++) {
-        if (memcmp(record(n), applying() + KID, 16) == 0) {
-            memcpy(record(n), kid, 16);
-        }
-    }
-}
-
-/* No key record, too many, two with one KID, or none with the KID that applies. */
-static void spoil_keys(void) {
-    uint8_t any[16];
-    switch (below(4)) {
-    case 0:
-        made[KEYS].length = 0;
-        break;
-    case 1:
-        make_keys(MOST_RECORDS + 1 + below(2));
-        break;
-    case 2: {
-        size_t count = 2 + below(MOST_RECORDS), last = 1 + below(count - 1);
-        make_keys(count);
-        memcpy(record(last), record(below(last)), 16);
-        break;
-    }
-    default:
-        fill(any, sizeof any);
-        rename_record(any);
-    }
-}
-
-/* Puts the box, the group entry or both under the zero KID, and the key record that applies. */
-static void put_zero_kid(void) {
-    static const uint8_t zero[16];
-    size_t which = below(3);
-    rename_record(zero);
-    if (which > 0) {
-        memset(made[BOX].bytes + FIELDS + KID, 0, 16);
-    }
-    if (which < 2 && made[ENTRY].length > 0) {
-        memset(made[ENTRY].bytes + KID, 0, 16);
+    if (constant) {
+        box[32] = 16;
+        fill(box + 33, 16);
     }
 }
 
@@ -347,23 +227,15 @@ static int make(void) {
     const struct kind *kind = &kinds[once_in(8) ? below(KINDS) : below(PROTECTED_KINDS)];
     memcpy(made[SCHEME].bytes, kind->code, 4);
     made[SCHEME].length = 4;
-    make_parameters(kind);
-    make_keys(once_in(2) ? 1 : 1 + below(MOST_RECORDS));
-    /* Where nothing is protected, the key records aren't looked at. */
-    if (kind->protected == 0 ? once_in(2) : !sound && once_in(8)) {
-        spoil_keys();
-    }
+    make_box(kind);
+    memcpy(made[KEYS].bytes, made[BOX].bytes + 16, 16);
+    fill(made[KEYS].bytes + 16, 16);
+    made[KEYS].length = CENC_KEY_RECORD_LENGTH;
     made[SAMPLE].length = make_auxiliary(kind, !sound && once_in(2));
     if (!sound) {
         if (once_in(16)) {
-            put_zero_kid();
-        }
-        if (once_in(16)) {
-            made[ENTRY].length = below(48);
-            fill(made[ENTRY].bytes, made[ENTRY].length);
-            if (once_in(2)) {
-                made[ENTRY].bytes[0] = 0;
-            }
+            memset(made[BOX].bytes + 16, 0, 16);
+            memset(made[KEYS].bytes, 0, 16);
         }
         if (once_in(4096)) {
             made[SAMPLE].length = CENC_MAX_SAMPLE_LENGTH + 1;
@@ -374,6 +246,12 @@ static int make(void) {
     }
     fill(made[SAMPLE].bytes, made[SAMPLE].length);
     return sound;
+}
+
+/* Whether an accepted box is that of a protected track under the zero KID. */
+static int has_zero_kid(void) {
+    static const uint8_t zero[16];
+    return made[BOX].bytes[14] == 1 && memcmp(made[BOX].bytes + 16, zero, sizeof zero) == 0;
 }
 
 /* Where the ranges lie in a call: pages with one before and one behind that can't be touched, or a block of the heap. */
@@ -436,15 +314,14 @@ static int margin_as_filled(int range) {
 }
 
 typedef uint8_t function(const uint8_t *, size_t, const uint8_t *, size_t, const uint8_t *, size_t, const uint8_t *, size_t,
-                         const uint8_t *, size_t, uint8_t *, size_t);
+                         uint8_t *, size_t);
 
 /* One call; nothing but the sample may change, and that only if it is accepted. */
 static int try(function *called) {
-    int number = called(lying[SCHEME].bytes, made[SCHEME].length, lying[BOX].bytes, made[BOX].length, lying[ENTRY].bytes,
-                        made[ENTRY].length, lying[AUXILIARY].bytes, made[AUXILIARY].length, lying[KEYS].bytes, made[KEYS].length,
-                        lying[SAMPLE].bytes, made[SAMPLE].length);
-    if (number > CENC_REFUSED_REMAINDER && number != CENC_REFUSED_GROUP_ENTRY) {
-        fail("no number of the C interface", number);
+    int number = called(lying[SCHEME].bytes, made[SCHEME].length, lying[BOX].bytes, made[BOX].length, lying[AUXILIARY].bytes,
+                        made[AUXILIARY].length, lying[KEYS].bytes, made[KEYS].length, lying[SAMPLE].bytes, made[SAMPLE].length);
+    if (number > 12) {
+        fail("a number above 12", number);
     }
     for (int range = 0; range < RANGES; range++) {
         if (range != SAMPLE && !as_made(range)) {
@@ -460,84 +337,8 @@ static int try(function *called) {
     return number;
 }
 
-/* What the key records are refused as under the KID, or CENC_DONE. */
-static int key_number(const uint8_t *kid) {
-    size_t count = made[KEYS].length / RECORD;
-    if (made[KEYS].length % RECORD != 0 || count == 0 || count > MOST_RECORDS) {
-        return CENC_REFUSED_KEY_RECORDS;
-    }
-    for (size_t n = 1; n < count; n++) {
-        if (having(n, record(n)) > 0) {
-            return CENC_REFUSED_KEY_RECORDS;
-        }
-    }
-    return having(count, kid) == 1 ? CENC_DONE : CENC_REFUSED_KID;
-}
-
-/* Whether the fields are protected under the zero KID. */
-static int has_zero_kid(const uint8_t *fields) {
-    static const uint8_t zero[16];
-    return fields[PROTECTED] == 1 && memcmp(fields + KID, zero, sizeof zero) == 0;
-}
-
-/* The number is that of the box, or else of the group entry, or else fits the key records under the parameters that apply. */
-static void check_order(function *called, int number) {
-    /* With nothing else handed in, only the box can be answered 1 to 4. */
-    int of_box = called(made[SCHEME].bytes, made[SCHEME].length, made[BOX].bytes, made[BOX].length, NULL, 0, NULL, 0, NULL, 0,
-                        NULL, 0);
-    if (of_box >= CENC_REFUSED_SCHEME && of_box <= CENC_REFUSED_FIELDS) {
-        if (number != of_box) {
-            fail("the box, which is refused, does not come first", number);
-        }
-        return;
-    }
-    int bad_entry = made[ENTRY].length > 0 && (made[ENTRY].length < SHORT_FIELDS || made[ENTRY].bytes[0] != 0);
-    if (bad_entry != (number == CENC_REFUSED_GROUP_ENTRY)) {
-        fail("18 and the group entry don't agree", number);
-    }
-    if (bad_entry || (made[ENTRY].length > 0 && number == CENC_REFUSED_FIELDS)) {
-        return;
-    }
-    const uint8_t *fields = applying();
-    if (has_zero_kid(made[BOX].bytes + FIELDS) || has_zero_kid(fields)) {
-        fail("the zero KID was accepted in protected parameters", number);
-    }
-    int of_keys = fields[PROTECTED] == 1 ? key_number(fields + KID) : CENC_DONE;
-    if (of_keys != CENC_DONE ? number != of_keys : number > CENC_DONE && number < CENC_REFUSED_LENGTH) {
-        fail("the number and the key records don't agree", number);
-    }
-}
-
-/*
- * An accepted sample has become what it becomes under a box of the fields that apply, without a group entry, and with the one key
- * record that applies, if any does.
- */
-static void check_alone(function *called) {
-    static uint8_t box[FIELDS + LONG_FIELDS], sample[LINE * 2];
-    const uint8_t *fields = applying();
-    size_t length = made[ENTRY].length > 0 ? made[ENTRY].length : made[BOX].length - FIELDS;
-    size_t n = 0, bytes = made[SAMPLE].length;
-    if (bytes == 0 || bytes > sizeof sample) {
-        return;
-    }
-    put_header(box, FIELDS + length, 1);
-    memcpy(box + FIELDS, fields, length);
-    memcpy(sample, made[SAMPLE].bytes, bytes);
-    while (fields[PROTECTED] == 1 && memcmp(record(n), fields + KID, 16) != 0) {
-        n++;
-    }
-    int number = called(made[SCHEME].bytes, made[SCHEME].length, box, FIELDS + length, NULL, 0, made[AUXILIARY].bytes,
-                        made[AUXILIARY].length, record(n), fields[PROTECTED] == 1 ? RECORD : 0, sample, bytes);
-    if (number != CENC_DONE || memcmp(sample, lying[SAMPLE].bytes, bytes) != 0) {
-        fail("a box of the fields that apply, with their key record alone, gives something else", number);
-    }
-    if (fields[PROTECTED] == 0 && !as_made(SAMPLE)) {
-        fail("an unprotected sample was changed", number);
-    }
-}
-
 int main(int count, char **words) {
-    static uint64_t answered[CENC_REFUSED_GROUP_ENTRY + 1];
+    static uint64_t answered[13];
     if (count < 3 || count > 4) {
         fprintf(stderr, "usage: calls SEED SECONDS [FIRST]\n");
         return EXIT_FAILURE;
@@ -563,9 +364,8 @@ int main(int count, char **words) {
         if (sound && number != 0) {
             fail("sound inputs were refused", number);
         }
-        check_order(called, number);
-        if (number == 0) {
-            check_alone(called);
+        if (number == 0 && has_zero_kid()) {
+            fail("a protected track under the zero KID was accepted", number);
         }
         if (try(undoing) != number) {
             fail("locking and opening do not answer the same number", number);
@@ -579,10 +379,8 @@ int main(int count, char **words) {
         answered[number]++;
     }
     printf("calls: %" PRIu64 " inputs locked and opened in pages and heap blocks of their own; answered", call - first);
-    for (int number = 0; number <= CENC_REFUSED_GROUP_ENTRY; number++) {
-        if (number <= CENC_REFUSED_REMAINDER || number == CENC_REFUSED_GROUP_ENTRY) {
-            printf(" %d:%" PRIu64, number, answered[number]);
-        }
+    for (int number = 0; number <= 12; number++) {
+        printf(" %d:%" PRIu64, number, answered[number]);
     }
     printf("\n");
     return EXIT_SUCCESS;

@@ -1,6 +1,6 @@
 /*
  * Writes changed lines for replay: `lines SEED FROM TO COUNT` takes lines of the file FROM, writes COUNT of them with changed,
- * added and missing bytes and words to the file TO, and prints how many lines those are, a newline being a byte like any other.
+ * added and missing bytes to the file TO, and prints how many lines those are, a newline being a byte like any other.
  */
 #include <inttypes.h>
 #include <stdio.h>
@@ -68,52 +68,11 @@ static void delete(size_t place, size_t count) {
     length -= count;
 }
 
-/* Puts count bytes from a place on there once more: two key records with one KID, where they are 64 digits. */
-static void repeat(size_t place, size_t count) {
-    if (count > length - place) {
-        count = length - place;
-    }
-    if (count > ROOM - length) {
-        count = ROOM - length;
-    }
-    memmove(line + place + count, line + place, length - place);
-    length += count;
-}
-
-/* Makes a word of digits one of no bytes, and a word of no bytes a group entry with any KID and constant IV. */
-static void other_word(size_t place) {
-    enum { SHORT = 40, LONG = 74 };
-    static const char *const begins[] = {"00000000", "00000108", "00000110", "00190108", "00000100", "00190100"};
-    size_t begin = place, end = place;
-    while (begin > 0 && line[begin - 1] != ' ' && line[begin - 1] != '\n') {
-        begin--;
-    }
-    while (end < length && (is_digit(line[end]) || line[end] == '-')) {
-        end++;
-    }
-    if (end == begin || (end < length && line[end] != ' ' && line[end] != '\n') || ROOM - length < LONG) {
-        return;
-    }
-    int none = end == begin + 1 && line[begin] == '-';
-    delete(begin, end - begin);
-    if (!none) {
-        insert(begin, 1, 0);
-        line[begin] = '-';
-        return;
-    }
-    size_t kind = below(sizeof begins / sizeof *begins);
-    insert(begin, kind < 4 ? SHORT : LONG, 0);
-    memcpy(line + begin, begins[kind], 8);
-    if (kind >= 4) {
-        memcpy(line + begin + SHORT, "10", 2);
-    }
-}
-
 static void change(void) {
     static const size_t lengths[] = {1000, 65535, 65536, 131072, LONGEST - 1, LONGEST, LONGEST + 1, 2 * LONGEST, ROOM};
     size_t place = below(length + 1);
     int at_digit = place < length && is_digit(line[place]);
-    switch (below(15)) {
+    switch (below(12)) {
     case 0:
     case 1:
     case 2:
@@ -150,15 +109,6 @@ static void change(void) {
         break;
     case 10:
         delete(place, 1 + below(40));
-        break;
-    case 11:
-        if (at_digit) {
-            repeat(place, 64);
-        }
-        break;
-    case 12:
-    case 13:
-        other_word(place);
         break;
     default:
         /* Up to a length at an edge, a newline being one byte of it; seldom, for these take long. */

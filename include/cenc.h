@@ -14,50 +14,39 @@ extern "C" {
  * change what they mean. From 1 on only a higher major number may, and a higher minor number adds.
  */
 #define CENC_VERSION_MAJOR 0
-#define CENC_VERSION_MINOR 2
+#define CENC_VERSION_MINOR 1
 
 /* The most that a call takes: bytes of a sample, subsample entries of a sample, key records. */
 #define CENC_MAX_SAMPLE_LENGTH 16777216
 #define CENC_MAX_ENTRIES 64
-#define CENC_MAX_KEY_RECORDS 32
+#define CENC_MAX_KEY_RECORDS 1
 
 /* The bytes of a key record: the KID, then the key, 16 each. */
 #define CENC_KEY_RECORD_LENGTH 32
 
 /*
- * The numbers answered: the first that applies, of 1 to 4 for the box, then 18 and 4 for the group entry, then 5 to 12. These last
- * go by the parameters that apply: the group entry's if there is one, else the box's. 5 and 6 are skipped if these are unprotected.
- * Among the fields that aren't allowed (4) is a KID of sixteen zero bytes in protected parameters.
+ * The numbers answered: the lowest that applies. 5 and 6 are skipped for an unprotected track. Among the fields that aren't
+ * allowed (4) is a KID of sixteen zero bytes on a protected track.
  */
 enum cenc_number {
     CENC_DONE = 0,                 /* done */
     CENC_REFUSED_SCHEME = 1,       /* the scheme code isn't four bytes naming one of the four */
     CENC_REFUSED_FRAME = 2,        /* the box has under 32 bytes, or its size field isn't its length, or its type isn't tenc */
-    CENC_REFUSED_VERSION = 3,      /* version above 1, flags or zero byte not zero, or a pattern in version 0;
-                                      in writing a group entry, a version other than 1 */
-    CENC_REFUSED_FIELDS = 4,       /* the fields aren't allowed, or the box or group entry is longer or shorter than they call for */
-    CENC_REFUSED_KEY_RECORDS = 5,  /* not one to 32 key records of 32 bytes (KID, then key), or two with one KID */
-    CENC_REFUSED_KID = 6,          /* no key record has the KID that applies */
+    CENC_REFUSED_VERSION = 3,      /* version above 1, flags or zero byte not zero, or a pattern in version 0 */
+    CENC_REFUSED_FIELDS = 4,       /* the fields aren't allowed, or the box is longer or shorter than they call for */
+    CENC_REFUSED_KEY_RECORD = 5,   /* key record not 32 bytes (KID, then key) */
+    CENC_REFUSED_KID = 6,          /* the key record's KID isn't the track's */
     CENC_REFUSED_LENGTH = 7,       /* sample over 16,777,216 bytes */
     CENC_REFUSED_SIZE = 8,         /* auxiliary data of the wrong size, or an entry count of 0 */
     CENC_REFUSED_ENTRIES = 9,      /* more than 64 entries */
     CENC_REFUSED_EMPTY_ENTRY = 10, /* an entry 0 and 0 in a sample that isn't empty */
     CENC_REFUSED_SUM = 11,         /* the entries' lengths don't add up to the sample's */
-    CENC_REFUSED_REMAINDER = 12,   /* cbc1 entry whose protected length isn't a multiple of 16 */
-    CENC_REFUSED_GROUP_ENTRY = 18  /* the group entry has under 20 bytes, or its first byte isn't zero */
+    CENC_REFUSED_REMAINDER = 12    /* cbc1 entry whose protected length isn't a multiple of 16 */
 };
 
 /*
- * scheme is the four bytes of the scheme code, box the track encryption box (tenc), group_entry the sample's group entry, auxiliary
- * the sample's auxiliary data (its IV, then nothing or the subsample entries), key_records one to 32 key records, sample the bytes
- * to change.
- *
- * The group entry is that of the seig group that the sample is in: the entry's bytes as they stand in sgpd, 20 or 37, without a
- * length before them. NULL and 0 mean that the sample is in no such group. An entry replaces the box's parameters for its sample;
- * the whole box is tried first all the same, and one that is refused is refused under any entry.
- *
- * The key records are joined, in any order. The one whose KID applies is used, so one list serves all samples of a track whose
- * keys change.
+ * scheme is the four bytes of the scheme code, box the track encryption box (tenc), auxiliary the sample's auxiliary data
+ * (its IV, then nothing or the subsample entries), key_record the KID and then the key, sample the bytes to change.
  *
  * Each call answers one of the numbers above. A refused call changes nothing; no call writes outside the sample.
  *
@@ -66,23 +55,19 @@ enum cenc_number {
  * samples of their own may run at the same time.
  *
  * The caller has to know: Nothing authenticates a sample. With a wrong key under the right KID the answer is CENC_DONE, and the
- * sample is garbage; a sample that was changed may be answered CENC_DONE as well. So may a sample that is handed in without its
- * group entry, or with a wrong one: if the key that then applies is among the records, the sample comes out as garbage, and if
- * none applies, since the parameters are unprotected, it stays as it is. Copies of the key and of its round keys stay on the stack
- * after a call. A call looks tables up by secret bytes, so that its time may depend on them.
+ * sample is garbage; a sample that was changed may be answered CENC_DONE as well. Copies of the key and of its round keys stay on
+ * the stack after a call. A call looks tables up by secret bytes, so that its time may depend on them.
  */
 uint8_t cenc_lock(const uint8_t *scheme, size_t scheme_length,
                   const uint8_t *box, size_t box_length,
-                  const uint8_t *group_entry, size_t group_entry_length,
                   const uint8_t *auxiliary, size_t auxiliary_length,
-                  const uint8_t *key_records, size_t key_records_length,
+                  const uint8_t *key_record, size_t key_record_length,
                   uint8_t *sample, size_t sample_length);
 
 uint8_t cenc_open(const uint8_t *scheme, size_t scheme_length,
                   const uint8_t *box, size_t box_length,
-                  const uint8_t *group_entry, size_t group_entry_length,
                   const uint8_t *auxiliary, size_t auxiliary_length,
-                  const uint8_t *key_records, size_t key_records_length,
+                  const uint8_t *key_record, size_t key_record_length,
                   uint8_t *sample, size_t sample_length);
 
 /*
@@ -94,11 +79,10 @@ static inline const char *cenc_text(uint8_t number) {
     case 0: return "done";
     case 1: return "the scheme code isn't four bytes naming one of the four";
     case 2: return "the box has under 32 bytes, or its size field isn't its length, or its type isn't tenc";
-    case 3: return "version above 1, flags or zero byte not zero, or a pattern in version 0; "
-                   "in writing a group entry, a version other than 1";
-    case 4: return "the fields aren't allowed, or the box or group entry is longer or shorter than they call for";
-    case 5: return "not one to 32 key records of 32 bytes (KID, then key), or two with one KID";
-    case 6: return "no key record has the KID that applies";
+    case 3: return "version above 1, flags or zero byte not zero, or a pattern in version 0";
+    case 4: return "the fields aren't allowed, or the box is longer or shorter than they call for";
+    case 5: return "key record not 32 bytes (KID, then key)";
+    case 6: return "the key record's KID isn't the track's";
     case 7: return "sample over 16,777,216 bytes";
     case 8: return "auxiliary data of the wrong size, or an entry count of 0";
     case 9: return "more than 64 entries";
@@ -109,8 +93,7 @@ static inline const char *cenc_text(uint8_t number) {
     case 14: return "piece runs past the declared length";
     case 15: return "output shorter than the bytes due";
     case 16: return "end asked for too early";
-    case 17: return "output too short for the box or group entry being written";
-    case 18: return "the group entry has under 20 bytes, or its first byte isn't zero";
+    case 17: return "output too short for the box being written";
     case 19: return "the block count of a grant is below 1 or above 1,048,576";
     case 20: return "the grant's counter, or in size 16 its last block's, would pass the largest 64-bit number, "
                     "or the issuer is used up";

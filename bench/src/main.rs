@@ -9,10 +9,6 @@ const SIZE: usize = 16 << 20;
 const PIECE: usize = 1400;
 const ROUNDS: usize = 11;
 
-/// A short sample, and how many calls with it make a round: an odd number, for by cenc every second call undoes the one before.
-const SHORT: usize = 300;
-const CALLS: usize = 9_999;
-
 extern "C" {
     fn ecb_encipher(key: *const u8, key_len: usize, data: *mut u8, data_len: usize);
     fn ecb_decipher(key: *const u8, key_len: usize, data: *mut u8, data_len: usize);
@@ -21,12 +17,10 @@ extern "C" {
         scheme_len: usize,
         track_box: *const u8,
         box_len: usize,
-        group_entry: *const u8,
-        group_entry_len: usize,
         auxiliary: *const u8,
         auxiliary_len: usize,
-        key_records: *const u8,
-        key_records_len: usize,
+        key_record: *const u8,
+        key_record_len: usize,
         in_place: bool,
         size: usize,
         data: *const u8,
@@ -48,21 +42,7 @@ fn library_decipher(key: &[u8; 16], data: &mut [u8]) {
 
 const KID: [u8; 16] = [1; 16];
 
-/// Protected parameters in version 1, with a constant IV where the IV size is 0.
-fn parameters(code: &[u8; 4], crypt: u8, skip: u8, iv_size: u8) -> Parameters {
-    Parameters {
-        code: *code,
-        version: 1,
-        crypt,
-        skip,
-        protected: 1,
-        iv_size,
-        kid: KID,
-        constant: if iv_size == 0 { [2; 16] } else { [0; 16] },
-    }
-}
-
-/// A sample of a protected track in no group: IVs of 16 bytes or, in cbcs, a constant one.
+/// A sample of a protected track: version 1, IVs of 16 bytes or, in cbcs, a constant one.
 struct Track {
     code: &'static [u8; 4],
     track_box: Vec<u8>,
@@ -71,8 +51,17 @@ struct Track {
 
 impl Track {
     fn new(code: &'static [u8; 4], crypt: u8, skip: u8, key: &[u8; 16]) -> Track {
-        let iv_size = if code == b"cbcs" { 0 } else { 16 };
-        let parameters = parameters(code, crypt, skip, iv_size);
+        let constant = code == b"cbcs";
+        let parameters = Parameters {
+            code: *code,
+            version: 1,
+            crypt,
+            skip,
+            protected: 1,
+            iv_size: if constant { 0 } else { 16 },
+            kid: KID,
+            constant: if constant { [2; 16] } else { [0; 16] },
+        };
         Track {
             code,
             track_box: track::bytes(&parameters).expect("accepted parameters"),
@@ -104,12 +93,10 @@ impl Track {
         let auxiliary = self.auxiliary(entries);
         row(
             name,
-            |data| {
-                cenc::open(*code, track_box, &[], &auxiliary, key_record, data).expect("accepted")
-            },
+            |data| cenc::open(*code, track_box, &auxiliary, key_record, data).expect("accepted"),
             |data| {
                 assert_eq!(
-                    sample::open(*code, track_box, &[], &auxiliary, key_record, data),
+                    sample::open(*code, track_box, &auxiliary, key_record, data),
                     0
                 )
             },
@@ -127,8 +114,6 @@ impl Track {
                 self.code.len(),
                 self.track_box.as_ptr(),
                 self.track_box.len(),
-                std::ptr::null(),
-                0,
                 auxiliary.as_ptr(),
                 auxiliary.len(),
                 self.key_record.as_ptr(),
@@ -150,7 +135,6 @@ impl Track {
             Direction::Open,
             self.code,
             &self.track_box,
-            &[],
             auxiliary,
             &self.key_record,
             length,
@@ -177,86 +161,33 @@ impl Track {
     }
 }
 
-/// A row for a call that opens a short sample by cenc with an IV of 8 bytes. The key record that applies is the last, and all KIDs differ
-/// only in their last byte. With a group entry, the track's own KID has no record.
-fn row_of_calls(name: &str, records: u8, grouped: bool, key: &[u8; 16]) {
-    let applying = parameters(b"cenc", 0, 0, 8);
-    let (mut of_track, mut entry) = (applying.clone(), Vec::new());
-    if grouped {
-        of_track.kid = [3; 16];
-        entry = track::group_bytes(&applying).expect("accepted parameters");
-    }
-    let track_box = track::bytes(&of_track).expect("accepted parameters");
-    let record = |n: u8| {
-        let mut kid = KID;
-        kid[15] += n;
-        [kid, key.map(|byte| byte ^ n)].concat()
-    };
-    let keys: Vec<u8> = (0..records).rev().flat_map(record).collect();
-    let iv = [2; 8];
-    let (ours, second) = medians(
-        name,
-        SHORT,
-        CALLS,
-        |data| cenc::open(b"cenc", &track_box, &entry, &iv, &keys, data).expect("accepted"),
-        |data| {
-            assert_eq!(
-                sample::open(b"cenc", &track_box, &entry, &iv, &keys, data),
-                0
-            )
-        },
-    );
-    print_row(name, ours * 1e9, second * 1e9);
+/// Milliseconds of one call.
+fn time(call: impl FnOnce()) -> f64 {
+    let start = Instant::now();
+    call();
+    start.elapsed().as_secs_f64() * 1000.0
 }
 
-/// A row for a call on 16 MiB.
+fn median(mut times: Vec<f64>) -> f64 {
+    times.sort_by(f64::total_cmp);
+    times[times.len() / 2]
+}
+
+/// One row of the table: both sides on equal bytes, in turn, after one round to warm up.
 fn row(name: &str, ours: impl Fn(&mut [u8]), second: impl Fn(&mut [u8])) {
-    let (ours, second) = medians(name, SIZE, 1, ours, second);
-    print_row(name, ours * 1e3, second * 1e3);
-}
-
-fn print_row(name: &str, ours: f64, second: f64) {
-    println!(
-        "| {name} | {ours:.0} | {second:.0} | {:.2} |",
-        ours / second
-    );
-}
-
-/// The seconds of a call on either side: both sides in turn on equal bytes, medians of rounds of so many calls, after one to warm up.
-fn medians(
-    name: &str,
-    length: usize,
-    calls: usize,
-    ours: impl Fn(&mut [u8]),
-    second: impl Fn(&mut [u8]),
-) -> (f64, f64) {
-    let start: Vec<u8> = (0..length).map(|i| (i * 7 % 251) as u8).collect();
+    let start: Vec<u8> = (0..SIZE).map(|i| (i * 7 % 251) as u8).collect();
     let (mut a, mut b) = (start.clone(), start);
     let (mut times_a, mut times_b) = (Vec::new(), Vec::new());
     for round in 0..=ROUNDS {
-        let x = time(calls, || ours(&mut a));
-        let y = time(calls, || second(&mut b));
+        let (x, y) = (time(|| ours(&mut a)), time(|| second(&mut b)));
         assert!(a == b, "{name}: the two sides differ");
         if round > 0 {
             times_a.push(x);
             times_b.push(y);
         }
     }
-    (median(times_a), median(times_b))
-}
-
-/// Seconds of one of so many calls.
-fn time(calls: usize, mut call: impl FnMut()) -> f64 {
-    let start = Instant::now();
-    for _ in 0..calls {
-        call();
-    }
-    start.elapsed().as_secs_f64() / calls as f64
-}
-
-fn median(mut times: Vec<f64>) -> f64 {
-    times.sort_by(f64::total_cmp);
-    times[times.len() / 2]
+    let (x, y) = (median(times_a), median(times_b));
+    println!("| {name} | {x:.0} | {y:.0} | {:.2} |", x / y);
 }
 
 fn main() {
@@ -283,11 +214,4 @@ fn main() {
     cenc.row_of_pieces("pieces of 1,400 bytes, cenc, in place", true);
     cbcs.row_of_pieces("pieces of 1,400 bytes, cbcs 1:9, by value", false);
     cbcs.row_of_pieces("pieces of 1,400 bytes, cbcs 1:9, in place", true);
-    println!();
-    println!("| One call | library, ns | second program, ns | ratio |");
-    println!("|---|---|---|---|");
-    row_of_calls("300 bytes, 1 key record", 1, false, &key);
-    row_of_calls("300 bytes, 32 key records", 32, false, &key);
-    row_of_calls("300 bytes, group entry, 1 key record", 1, true, &key);
-    row_of_calls("300 bytes, group entry, 32 key records", 32, true, &key);
 }

@@ -16,7 +16,7 @@ static const uint8_t box[] = {
     16,   0xaa, 0xaa, 0xaa, 0xaa, 0xaa, 0xaa, 0xaa, 0xaa, 0xaa, 0xaa, 0xaa, 0xaa, 0xaa, 0xaa, 0xaa, 0xaa,
 };
 
-/* One key record: the KID, then the key. */
+/* The KID, then the key. */
 static const uint8_t key_record[CENC_KEY_RECORD_LENGTH] = {
     0x01, 0x02, 0x03, 0x04, 0x05, 0x06, 0x07, 0x08, 0x09, 0x0a, 0x0b, 0x0c, 0x0d, 0x0e, 0x0f, 0x10,
     0x2b, 0x7e, 0x15, 0x16, 0x28, 0xae, 0xd2, 0xa6, 0xab, 0xf7, 0x15, 0x88, 0x09, 0xcf, 0x4f, 0x3c,
@@ -49,9 +49,8 @@ int main(void) {
     }
     memcpy(sample, recording, LENGTH);
 
-    /* The sample is in no group. cbcs has its IV in the box, and no entries mean the whole sample: no auxiliary data. */
-    uint8_t number = cenc_lock(scheme, sizeof scheme, box, sizeof box, NULL, 0, NULL, 0, key_record, sizeof key_record,
-                               sample, LENGTH);
+    /* cbcs has its IV in the box, and no entries mean the whole sample: no auxiliary data. */
+    uint8_t number = cenc_lock(scheme, sizeof scheme, box, sizeof box, NULL, 0, key_record, sizeof key_record, sample, LENGTH);
     if (number != CENC_DONE) {
         return refused("cenc_lock", number);
     }
@@ -66,15 +65,13 @@ int main(void) {
     uint8_t other_record[CENC_KEY_RECORD_LENGTH];
     memcpy(other_record, key_record, sizeof other_record);
     other_record[0] = 0xff;
-    number = cenc_open(scheme, sizeof scheme, box, sizeof box, NULL, 0, NULL, 0, other_record, sizeof other_record,
-                       sample, LENGTH);
+    number = cenc_open(scheme, sizeof scheme, box, sizeof box, NULL, 0, other_record, sizeof other_record, sample, LENGTH);
     if (number != CENC_REFUSED_KID) {
         return stop("another KID was not refused as such");
     }
     printf("refused %d: %s\n", number, cenc_text(number));
 
-    number = cenc_open(scheme, sizeof scheme, box, sizeof box, NULL, 0, NULL, 0, key_record, sizeof key_record,
-                       sample, LENGTH);
+    number = cenc_open(scheme, sizeof scheme, box, sizeof box, NULL, 0, key_record, sizeof key_record, sample, LENGTH);
     if (number != CENC_DONE) {
         return refused("cenc_open", number);
     }

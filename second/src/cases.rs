@@ -2,9 +2,7 @@
 
 mod auxiliary;
 mod boxes;
-mod groups;
 mod issuers;
-mod keys;
 mod samples;
 mod streams;
 mod volumes;
@@ -174,64 +172,5 @@ fn mend_size(bytes: &mut [u8]) {
     let length = bytes.len() as u32;
     if let Some(size) = bytes.get_mut(..4) {
         size.copy_from_slice(&length.to_be_bytes());
-    }
-}
-
-#[cfg(test)]
-mod tests {
-    use super::*;
-    use crate::replay;
-    use std::collections::BTreeMap;
-
-    /// How often each number is answered to lines of this set that begin with one of these words.
-    fn numbers(set: &str, words: &[&str]) -> BTreeMap<u8, usize> {
-        let (mut lines, mut answers) = (Vec::new(), Vec::new());
-        assert!(print(set, 7, 8000, &mut lines).unwrap());
-        replay::run(&mut &lines[..], &mut answers).unwrap();
-        let (lines, answers) = (String::from_utf8(lines), String::from_utf8(answers));
-        let mut numbers = BTreeMap::new();
-        for (line, answer) in lines.unwrap().lines().zip(answers.unwrap().lines()) {
-            let first = |text: &str| text.split(' ').next().unwrap().to_string();
-            if words.contains(&first(line).as_str()) {
-                *numbers.entry(first(answer).parse().unwrap()).or_default() += 1;
-            }
-        }
-        numbers
-    }
-
-    /// Each number that a line can be answered by is. No line can hold a sample that is too long.
-    #[test]
-    fn every_number_occurs() {
-        let all = |set, words| Vec::from_iter(numbers(set, words).into_keys());
-        assert_eq!(all("box", &["box"]), [0, 1, 2, 3, 4]);
-        assert_eq!(all("box", &["write"]), [0, 1, 3, 4, 17]);
-        assert_eq!(all("box", &["group"]), [0, 1, 4, 18]);
-        assert_eq!(all("box", &["wgroup"]), [0, 1, 3, 4, 17]);
-        assert_eq!(
-            all("aux", &["aux"]),
-            [0, 1, 2, 3, 4, 7, 8, 9, 10, 11, 12, 18]
-        );
-        assert_eq!(
-            all("sample", &["lock", "open"]),
-            [0, 1, 2, 3, 4, 5, 6, 8, 9, 10, 11, 12, 18]
-        );
-        assert_eq!(
-            all("stream", &["stream"]),
-            [0, 1, 2, 3, 4, 5, 6, 7, 8, 9, 10, 11, 12, 18]
-        );
-    }
-
-    /// Most samples are accepted, so that bytes are compared and not only numbers.
-    #[test]
-    fn most_are_accepted() {
-        for (set, words) in [
-            ("aux", &["aux"][..]),
-            ("sample", &["lock", "open"]),
-            ("stream", &["stream"]),
-        ] {
-            let numbers = numbers(set, words);
-            let share = 100 * numbers[&0] / numbers.values().sum::<usize>();
-            assert!((55..=75).contains(&share), "{set}: {share} percent");
-        }
     }
 }

@@ -5,8 +5,8 @@
 //! unknown kind, or a word that breaks these rules makes the line malformed.
 //!
 //! VERSION, CRYPT, SKIP, PROTECTED and IVSIZE are 0 to 255, a ROOM 0 to 65,536, other numbers any of
-//! their type. In `write`, `wgroup` and `record` CODE is exactly 4 bytes and KID, CONSTANT, KEY, BLOCK
-//! and HELD are exactly 16; all other byte strings may have any length. A last line needs no newline.
+//! their type. In `write` and `record` CODE is exactly 4 bytes and KID, CONSTANT, KEY, BLOCK and HELD
+//! are exactly 16; all other byte strings may have any length. A last line needs no newline.
 
 mod streams;
 mod vault;
@@ -54,27 +54,47 @@ fn answer(line: &[u8]) -> String {
 /// `None` if the line is malformed.
 fn call(words: &[&[u8]]) -> Option<String> {
     match words {
-        [b"box", code, bytes] => Some(read(track::read(&any(code)?, &any(bytes)?))),
-        [b"group", code, entry] => Some(read(track::read_group(&any(code)?, &any(entry)?))),
-        [b"write", words @ ..] => write(words, track::write),
-        [b"wgroup", words @ ..] => write(words, track::write_group),
-        [b"aux", code, track_box, entry, length, aux] => {
-            let (code, track_box, entry) = (any(code)?, any(track_box)?, any(entry)?);
-            let (length, aux) = (number(length, u64::MAX)?, any(aux)?);
-            let (number, map, iv) = match subsample::read(&code, &track_box, &entry, length, &aux) {
+        [b"box", code, bytes] => {
+            let (number, parameters) = match track::read(&any(code)?, &any(bytes)?) {
+                Ok(parameters) => (0, parameters),
+                Err(number) => (number, Parameters::REFUSED),
+            };
+            Some(format!("{number} {}", parameters_text(&parameters)))
+        }
+        [b"write", code, version, crypt, skip, protected, iv_size, kid, constant, room] => {
+            let parameters = Parameters {
+                code: fixed(code)?,
+                version: byte(version)?,
+                crypt: byte(crypt)?,
+                skip: byte(skip)?,
+                protected: byte(protected)?,
+                iv_size: byte(iv_size)?,
+                kid: fixed(kid)?,
+                constant: fixed(constant)?,
+            };
+            let mut out = vec![0; words::room(room)?];
+            Some(match track::write(&parameters, &mut out) {
+                Ok(length) => format!("0 {}", hex::word(&out[..length])),
+                Err(number) => format!("{number} -"),
+            })
+        }
+        [b"aux", code, track_box, length, aux] => {
+            let (code, track_box, aux) = (any(code)?, any(track_box)?, any(aux)?);
+            let length = number(length, u64::MAX)?;
+            let (number, map, iv) = match subsample::read(&code, &track_box, length, &aux) {
                 Ok((map, iv)) => (0, map, iv),
                 Err(number) => (number, Map::EMPTY, [0; 16]),
             };
             Some(format!("{number} {} {}", map_text(&map), hex::word(&iv)))
         }
-        [kind @ (b"lock" | b"open"), code, track_box, entry, aux, keys, sample] => {
-            let (code, track_box, entry) = (any(code)?, any(track_box)?, any(entry)?);
+        [kind @ (b"lock" | b"open"), code, track_box, aux, keys, sample] => {
+            let (code, track_box) = (any(code)?, any(track_box)?);
             let (aux, keys, mut sample) = (any(aux)?, any(keys)?, any(sample)?);
             let call = match direction(kind)? {
                 Direction::Lock => sample::lock,
                 Direction::Open => sample::open,
             };
-            let number = call(&code, &track_box, &entry, &aux, &keys, &mut sample);
+            let number = call(&code, &track_box, &aux, &keys, &mut sample);
             Some(format!("{number} {}", hex::word(&sample)))
         }
         [b"stream", words @ ..] => streams::stream(words),
@@ -82,39 +102,6 @@ fn call(words: &[&[u8]]) -> Option<String> {
         [b"issuer", words @ ..] => vault::issuer(words),
         _ => vault::volume(words),
     }
-}
-
-/// A box or a group entry read, answered `NUMBER PARAMS`.
-fn read(result: Result<Parameters, u8>) -> String {
-    let (number, parameters) = match result {
-        Ok(parameters) => (0, parameters),
-        Err(number) => (number, Parameters::REFUSED),
-    };
-    format!("{number} {}", parameters_text(&parameters))
-}
-
-type Writer = fn(&Parameters, &mut [u8]) -> Result<usize, u8>;
-
-/// `CODE VERSION CRYPT SKIP PROTECTED IVSIZE KID CONSTANT ROOM`, answered `NUMBER BYTES`.
-fn write(words: &[&[u8]], writer: Writer) -> Option<String> {
-    let [code, version, crypt, skip, protected, iv_size, kid, constant, room] = words else {
-        return None;
-    };
-    let parameters = Parameters {
-        code: fixed(code)?,
-        version: byte(version)?,
-        crypt: byte(crypt)?,
-        skip: byte(skip)?,
-        protected: byte(protected)?,
-        iv_size: byte(iv_size)?,
-        kid: fixed(kid)?,
-        constant: fixed(constant)?,
-    };
-    let mut out = vec![0; words::room(room)?];
-    Some(match writer(&parameters, &mut out) {
-        Ok(length) => format!("0 {}", hex::word(&out[..length])),
-        Err(number) => format!("{number} -"),
-    })
 }
 
 #[cfg(test)]

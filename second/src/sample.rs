@@ -1,16 +1,9 @@
-//! Whole samples, locked and opened in place. A group entry without bytes is none.
+//! Whole samples, locked and opened in place.
 
 use crate::aes::{self, xor, Block, RoundKeys};
 use crate::subsample::{self, Map};
 use crate::track::{self, Parameters, Scheme};
-use std::collections::BTreeSet;
 use std::ops::Range;
-
-/// A key record is a KID and its key.
-const KEY_RECORD: usize = 32;
-
-/// Most key records that a call takes.
-const MOST_KEYS: usize = 32;
 
 #[derive(Clone, Copy, Debug, PartialEq, Eq)]
 pub enum Direction {
@@ -18,40 +11,25 @@ pub enum Direction {
     Open,
 }
 
-/// Locks a sample and answers 0, or leaves it and answers a refusal, 1 to 12 or 18.
-pub fn lock(
-    code: &[u8],
-    track_box: &[u8],
-    entry: &[u8],
-    aux: &[u8],
-    keys: &[u8],
-    sample: &mut [u8],
-) -> u8 {
-    run(Direction::Lock, code, track_box, entry, aux, keys, sample)
+/// Locks a sample and answers 0, or leaves it and answers a refusal, 1 to 12.
+pub fn lock(code: &[u8], track_box: &[u8], aux: &[u8], keys: &[u8], sample: &mut [u8]) -> u8 {
+    run(Direction::Lock, code, track_box, aux, keys, sample)
 }
 
-/// Opens a sample and answers 0, or leaves it and answers a refusal, 1 to 12 or 18.
-pub fn open(
-    code: &[u8],
-    track_box: &[u8],
-    entry: &[u8],
-    aux: &[u8],
-    keys: &[u8],
-    sample: &mut [u8],
-) -> u8 {
-    run(Direction::Open, code, track_box, entry, aux, keys, sample)
+/// Opens a sample and answers 0, or leaves it and answers a refusal, 1 to 12.
+pub fn open(code: &[u8], track_box: &[u8], aux: &[u8], keys: &[u8], sample: &mut [u8]) -> u8 {
+    run(Direction::Open, code, track_box, aux, keys, sample)
 }
 
 fn run(
     direction: Direction,
     code: &[u8],
     track_box: &[u8],
-    entry: &[u8],
     aux: &[u8],
     keys: &[u8],
     sample: &mut [u8],
 ) -> u8 {
-    match admit(code, track_box, entry, aux, keys, sample.len() as u64) {
+    match admit(code, track_box, aux, keys, sample.len() as u64) {
         Ok(inputs) => {
             transform(direction, &inputs, sample);
             0
@@ -60,7 +38,7 @@ fn run(
     }
 }
 
-/// Inputs that no number refuses, with the parameters that apply. If these are unprotected, key and IV are zero.
+/// Inputs that none of 1 to 12 refuses. For an unprotected track key and IV are zero.
 pub struct Inputs {
     pub parameters: Parameters,
     pub scheme: Scheme,
@@ -69,20 +47,24 @@ pub struct Inputs {
     pub iv: Block,
 }
 
-/// Refusals 1 to 4 of the box, 18 and 4 of the entry, then 5 to 12.
 pub fn admit(
     code: &[u8],
     track_box: &[u8],
-    entry: &[u8],
     aux: &[u8],
     keys: &[u8],
     length: u64,
 ) -> Result<Inputs, u8> {
-    let parameters = track::read_applying(code, track_box, entry)?;
+    let parameters = track::read(code, track_box)?;
     let scheme = parameters.check()?;
     let mut key = [0; 16];
     if parameters.is_protected() {
-        key = key_under(&parameters.kid, keys)?;
+        if keys.len() != 32 {
+            return Err(5);
+        }
+        if keys[..16] != parameters.kid {
+            return Err(6);
+        }
+        key.copy_from_slice(&keys[16..]);
     }
     let (map, iv) = subsample::read_under(&parameters, length, aux)?;
     Ok(Inputs {
@@ -92,26 +74,6 @@ pub fn admit(
         map,
         iv,
     })
-}
-
-/// The key in the one record that has this KID. Refusals 5 and 6.
-fn key_under(kid: &[u8; 16], keys: &[u8]) -> Result<[u8; 16], u8> {
-    let records: Vec<(&[u8], &[u8])> = keys
-        .chunks_exact(KEY_RECORD)
-        .map(|record| record.split_at(16))
-        .collect();
-    if keys.len() % KEY_RECORD != 0 || !(1..=MOST_KEYS).contains(&records.len()) {
-        return Err(5);
-    }
-    // 02, Ask 1: "two with one KID", whether or not it is the KID that applies.
-    let kids: BTreeSet<&[u8]> = records.iter().map(|record| record.0).collect();
-    if kids.len() < records.len() {
-        return Err(5);
-    }
-    let (_, key) = records.iter().find(|record| record.0 == kid).ok_or(6)?;
-    let mut found = [0; 16];
-    found.copy_from_slice(key);
-    Ok(found)
 }
 
 fn transform(direction: Direction, inputs: &Inputs, sample: &mut [u8]) {
@@ -236,62 +198,5 @@ pub fn chain_block(
             *chain = block;
             plain
         }
-    }
-}
-
-#[cfg(test)]
-mod tests {
-    use super::*;
-
-    const KID: [u8; 16] = [1; 16];
-
-    /// Records for these KIDs, the nth with a key of bytes n.
-    fn records(kids: &[[u8; 16]]) -> Vec<u8> {
-        let record = |(n, kid): (usize, &[u8; 16])| [*kid, [n as u8; 16]].concat();
-        kids.iter().enumerate().flat_map(record).collect()
-    }
-
-    /// 02, Ask 1: "one to 32 key records, joined".
-    #[test]
-    fn lengths_of_key_records() {
-        let kids: Vec<[u8; 16]> = (1..=33).map(|n| [n; 16]).collect();
-        let keys = records(&kids);
-        for length in 0..=keys.len() {
-            let sound = length % 32 == 0 && (32..=1024).contains(&length);
-            let key = key_under(&KID, &keys[..length]);
-            assert_eq!(key, if sound { Ok([0; 16]) } else { Err(5) }, "{length}");
-        }
-    }
-
-    #[test]
-    fn each_place_among_32() {
-        for place in 0..32 {
-            let mut kids: Vec<[u8; 16]> = (2..34).map(|n| [n; 16]).collect();
-            assert_eq!(key_under(&KID, &records(&kids)), Err(6));
-            kids[place] = KID;
-            assert_eq!(key_under(&KID, &records(&kids)), Ok([place as u8; 16]));
-        }
-    }
-
-    /// 02, Ask 1: "two with one KID", at any two places, of the KID that applies or of another.
-    #[test]
-    fn doubled_kids() {
-        for (first, second) in (0..32).flat_map(|b| (0..b).map(move |a| (a, b))) {
-            let mut kids: Vec<[u8; 16]> = (1..=32).map(|n| [n; 16]).collect();
-            kids[second] = kids[first];
-            assert_eq!(key_under(&KID, &records(&kids)), Err(5));
-        }
-    }
-
-    /// A KID counts to its last byte, and a key is no KID.
-    #[test]
-    fn kids_are_compared_whole() {
-        for place in 0..16 {
-            let mut near = KID;
-            near[place] ^= 1;
-            assert_eq!(key_under(&KID, &records(&[near])), Err(6));
-            assert_eq!(key_under(&KID, &records(&[near, KID])), Ok([1; 16]));
-        }
-        assert_eq!(key_under(&KID, &records(&[[2; 16], [3; 16]])), Err(6));
     }
 }

@@ -9,7 +9,6 @@ use crate::track::{Parameters, Scheme};
 #[derive(Clone, Debug, PartialEq, Eq)]
 pub struct Record {
     pub direction: Direction,
-    /// Those that apply to the sample: its group entry's, or the track's.
     pub parameters: Parameters,
     pub length: u64,
     pub map: Map,
@@ -22,17 +21,16 @@ pub struct Record {
     pub held_count: u64,
 }
 
-/// Starts a stream. A refusal is 1 to 12 or 18, and the record then that of an empty unprotected track.
+/// Starts a stream. A refusal is 1 to 12, and the record then that of an empty unprotected track.
 pub fn start(
     direction: Direction,
     code: &[u8],
     track_box: &[u8],
-    entry: &[u8],
     aux: &[u8],
     keys: &[u8],
     length: u64,
 ) -> (u8, Record) {
-    match admit(code, track_box, entry, aux, keys, length) {
+    match admit(code, track_box, aux, keys, length) {
         Ok(inputs) => {
             let record = Record {
                 direction,
@@ -300,57 +298,5 @@ impl Walk {
             byte: (self.passed % 16) as usize,
             first: block == 0,
         })
-    }
-}
-
-#[cfg(test)]
-mod tests {
-    use super::*;
-    use crate::{sample, track};
-
-    /// 02, Ask 1: "Demands 2 and 3 .. read the parameters that apply to the sample".
-    #[test]
-    fn pieces_under_an_entry() {
-        let track_box = track::bytes(&Parameters::REFUSED).unwrap();
-        for (code, iv_size, crypt, skip) in [
-            (b"cenc", 8, 0, 0),
-            (b"cbc1", 16, 0, 0),
-            (b"cens", 16, 2, 1),
-            (b"cbcs", 0, 1, 2),
-        ] {
-            let parameters = Parameters {
-                code: *code,
-                version: 1,
-                crypt,
-                skip,
-                protected: 1,
-                iv_size,
-                kid: [2; 16],
-                ..Parameters::REFUSED
-            };
-            let entry = track::group_bytes(&parameters).unwrap();
-            let aux = vec![9; iv_size.into()];
-            let keys: Vec<u8> = (1..=3)
-                .flat_map(|n| [[n; 16], [n + 9; 16]].concat())
-                .collect();
-            let mut whole: Vec<u8> = (0..100).collect();
-            let mut pieces: Vec<u8> = Vec::new();
-            let (number, mut record) =
-                start(Direction::Lock, code, &track_box, &entry, &aux, &keys, 100);
-            assert_eq!(number, 0);
-            assert_eq!((&record.parameters, record.key), (&parameters, [11; 16]));
-            for piece in whole.chunks(7) {
-                let mut out = [0; 22];
-                let (number, released) = feed(&mut record, piece, &mut out);
-                assert_eq!(number, 0);
-                pieces.extend(&out[..released]);
-            }
-            assert_eq!(end(&record), 0);
-            assert_eq!(
-                sample::lock(code, &track_box, &entry, &aux, &keys, &mut whole),
-                0
-            );
-            assert_eq!(pieces, whole);
-        }
     }
 }

@@ -64,16 +64,9 @@ impl Map {
     }
 }
 
-/// Reads auxiliary data under a code, a box and a group entry, which may have no bytes. Refusals 1 to 4, 18, 4 and
-/// 7 to 12.
-pub fn read(
-    code: &[u8],
-    track_box: &[u8],
-    entry: &[u8],
-    length: u64,
-    aux: &[u8],
-) -> Result<(Map, [u8; 16]), u8> {
-    read_under(&track::read_applying(code, track_box, entry)?, length, aux)
+/// Reads auxiliary data under a code and a box. Refusals 1 to 4 and 7 to 12.
+pub fn read(code: &[u8], track_box: &[u8], length: u64, aux: &[u8]) -> Result<(Map, [u8; 16]), u8> {
+    read_under(&track::read(code, track_box)?, length, aux)
 }
 
 /// The same under accepted parameters. Refusals 7 to 12.

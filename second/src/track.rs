@@ -1,13 +1,10 @@
-//! The track encryption box and the group entry that can replace it for some samples: read and written.
+//! The track encryption box: its parameters, read and written.
 //!
-//! A refusal is an `Err` with its number in document 01's table; 18 is Ask 1's in document 02.
+//! A refusal is an `Err` with its number in document 01's table.
 
-/// Length of a box without a constant IV.
+/// Length of a box without and with a constant IV.
 const SHORT_BOX: usize = 32;
-
-/// Length of a group entry without and with a constant IV.
-const SHORT_ENTRY: usize = 20;
-const LONG_ENTRY: usize = 37;
+const LONG_BOX: usize = 49;
 
 #[derive(Clone, Copy, Debug, PartialEq, Eq)]
 pub enum Scheme {
@@ -29,8 +26,7 @@ impl Scheme {
     }
 }
 
-/// What a box or a group entry says, together with the scheme's code. Any values can be held; `check` tells the
-/// allowed ones.
+/// What a box says, together with the scheme's code. Any values can be held; `check` tells the allowed ones.
 #[derive(Clone, Debug, PartialEq, Eq)]
 pub struct Parameters {
     pub code: [u8; 4],
@@ -119,54 +115,26 @@ pub fn read(code: &[u8], bytes: &[u8]) -> Result<Parameters, u8> {
     if u64::from(size) != bytes.len() as u64 || bytes[4..8] != *b"tenc" {
         return Err(2);
     }
-    let (version, flags, fields) = (bytes[8], &bytes[9..12], &bytes[12..]);
-    if version > 1 || flags != [0; 3] || fields[0] != 0 || version == 0 && fields[1] != 0 {
+    let (version, flags, zero, pattern) = (bytes[8], &bytes[9..12], bytes[12], bytes[13]);
+    if version > 1 || flags != [0; 3] || zero != 0 || version == 0 && pattern != 0 {
         return Err(3);
     }
-    read_fields(code, version, fields)
-}
-
-/// Reads a group entry alone. Refusals 1, 18 and 4.
-pub fn read_group(code: &[u8], entry: &[u8]) -> Result<Parameters, u8> {
-    if Scheme::named(code).is_none() {
-        return Err(1);
-    }
-    if entry.len() < SHORT_ENTRY || entry[0] != 0 {
-        return Err(18);
-    }
-    // 02, Ask 1: "An entry's parameters have version 1".
-    read_fields(code, 1, entry)
-}
-
-/// The parameters that apply to a sample: its group entry's, or the box's if the entry has no bytes. Refusals 1 to
-/// 4 of the whole box, also where an entry replaces it, then 18 and 4 of the entry.
-pub fn read_applying(code: &[u8], track_box: &[u8], entry: &[u8]) -> Result<Parameters, u8> {
-    let of_track = read(code, track_box)?;
-    if entry.is_empty() {
-        return Ok(of_track);
-    }
-    read_group(code, entry)
-}
-
-/// Reads what a group entry is and a box ends with, at least 20 bytes: zero byte, pattern, flag, IV size, KID and,
-/// where one is called for, the constant IV with its size. Refusal 4.
-fn read_fields(code: &[u8], version: u8, fields: &[u8]) -> Result<Parameters, u8> {
     let mut parameters = Parameters {
         code: fixed(code),
         version,
-        crypt: fields[1] >> 4,
-        skip: fields[1] & 15,
-        protected: fields[2],
-        iv_size: fields[3],
-        kid: fixed(&fields[4..20]),
+        crypt: pattern >> 4,
+        skip: pattern & 15,
+        protected: bytes[14],
+        iv_size: bytes[15],
+        kid: fixed(&bytes[16..32]),
         constant: [0; 16],
     };
     if parameters.has_constant() {
-        if fields.len() != LONG_ENTRY || fields[20] != 16 {
+        if bytes.len() != LONG_BOX || bytes[32] != 16 {
             return Err(4);
         }
-        parameters.constant = fixed(&fields[21..]);
-    } else if fields.len() != SHORT_ENTRY {
+        parameters.constant = fixed(&bytes[33..]);
+    } else if bytes.len() != SHORT_BOX {
         return Err(4);
     }
     parameters.check()?;
@@ -177,47 +145,23 @@ fn read_fields(code: &[u8], version: u8, fields: &[u8]) -> Result<Parameters, u8
 pub fn bytes(parameters: &Parameters) -> Result<Vec<u8>, u8> {
     parameters.check()?;
     let mut bytes = b"\0\0\0\0tenc".to_vec();
-    bytes.extend([parameters.version, 0, 0, 0]);
-    bytes.extend(fields(parameters));
+    bytes.extend([parameters.version, 0, 0, 0, 0]);
+    bytes.push(parameters.crypt << 4 | parameters.skip);
+    bytes.extend([parameters.protected, parameters.iv_size]);
+    bytes.extend(parameters.kid);
+    if parameters.has_constant() {
+        bytes.push(16);
+        bytes.extend(parameters.constant);
+    }
     bytes[3] = bytes.len() as u8;
     Ok(bytes)
 }
 
-/// The group entry of these parameters. Refusals 1, 3 (a version other than 1) and 4.
-pub fn group_bytes(parameters: &Parameters) -> Result<Vec<u8>, u8> {
-    Scheme::named(&parameters.code).ok_or(1)?;
-    if parameters.version != 1 {
-        return Err(3);
-    }
-    parameters.check()?;
-    Ok(fields(parameters))
-}
-
-/// What `read_fields` reads, of allowed parameters.
-fn fields(parameters: &Parameters) -> Vec<u8> {
-    let mut fields = vec![0, parameters.crypt << 4 | parameters.skip];
-    fields.extend([parameters.protected, parameters.iv_size]);
-    fields.extend(parameters.kid);
-    if parameters.has_constant() {
-        fields.push(16);
-        fields.extend(parameters.constant);
-    }
-    fields
-}
-
 /// Writes a box to the beginning of `out` and answers its length. Refusals 1, 3, 4 and 17.
 pub fn write(parameters: &Parameters, out: &mut [u8]) -> Result<usize, u8> {
-    place(&bytes(parameters)?, out)
-}
-
-/// Writes a group entry to the beginning of `out` and answers its length. Refusals 1, 3, 4 and 17.
-pub fn write_group(parameters: &Parameters, out: &mut [u8]) -> Result<usize, u8> {
-    place(&group_bytes(parameters)?, out)
-}
-
-fn place(bytes: &[u8], out: &mut [u8]) -> Result<usize, u8> {
+    let bytes = bytes(parameters)?;
     let place = out.get_mut(..bytes.len()).ok_or(17)?;
-    place.copy_from_slice(bytes);
+    place.copy_from_slice(&bytes);
     Ok(bytes.len())
 }
 
@@ -241,61 +185,6 @@ mod tests {
         assert_eq!(write(&parameters, &mut out), Ok(32));
         assert_eq!(out[..4], [0, 0, 0, 32]);
         assert_eq!(out[32], 7);
-    }
-
-    #[test]
-    fn only_the_entry_is_written() {
-        let mut parameters = Parameters {
-            version: 1,
-            ..Parameters::REFUSED
-        };
-        let mut out = [7; 21];
-        assert_eq!(write_group(&parameters, &mut out[..19]), Err(17));
-        assert_eq!(out, [7; 21]);
-        assert_eq!(write_group(&parameters, &mut out), Ok(20));
-        assert_eq!(out[..20], [0; 20]);
-        assert_eq!(out[20], 7);
-        parameters.version = 0;
-        assert_eq!(write_group(&parameters, &mut out), Err(3));
-        assert_eq!(out[20], 7);
-    }
-
-    /// 02, Ask 1: the entry has the box's fields, and version 1 whatever the box has.
-    #[test]
-    fn a_box_ends_with_the_entry() {
-        let parameters = Parameters {
-            code: *b"cbcs",
-            version: 0,
-            protected: 1,
-            kid: [3; 16],
-            constant: [5; 16],
-            ..Parameters::REFUSED
-        };
-        let of_entry = Parameters {
-            version: 1,
-            ..parameters.clone()
-        };
-        let track_box = bytes(&parameters).unwrap();
-        assert_eq!(group_bytes(&of_entry), Ok(track_box[12..].to_vec()));
-        assert_eq!(read(b"cbcs", &track_box), Ok(parameters));
-        assert_eq!(read_group(b"cbcs", &track_box[12..]), Ok(of_entry));
-    }
-
-    /// 02, Ask 1: "A group entry replaces the track's parameters", but "the entry is tried right after the whole box".
-    #[test]
-    fn the_entry_applies() {
-        let entry = [0; 20];
-        let mut track_box = bytes(&Parameters::REFUSED).unwrap();
-        let of_entry = read_group(b"cenc", &entry).unwrap();
-        assert_eq!(
-            read_applying(b"cenc", &track_box, &[]),
-            Ok(Parameters::REFUSED)
-        );
-        assert_eq!(read_applying(b"cenc", &track_box, &entry), Ok(of_entry));
-        assert_eq!(read_applying(b"cenc", &track_box, &entry[1..]), Err(18));
-        assert_eq!(read_applying(b"cenc", &track_box, &[0; 21]), Err(4));
-        track_box[14] = 2;
-        assert_eq!(read_applying(b"cenc", &track_box, &entry[1..]), Err(4));
     }
 
     /// 02, Ask 8: refused, and not a byte is written.

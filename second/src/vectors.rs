@@ -95,7 +95,7 @@ fn sp_800_38a(out: &mut impl Write) -> io::Result<()> {
     Ok(())
 }
 
-type Call = fn(&[u8], &[u8], &[u8], &[u8], &[u8], &mut [u8]) -> u8;
+type Call = fn(&[u8], &[u8], &[u8], &[u8], &mut [u8]) -> u8;
 
 /// A whole sample under the published key, accepted.
 fn done(call: Call, code: &[u8; 4], iv: &[u8; 16], data: &mut [u8]) {
@@ -108,7 +108,7 @@ fn done(call: Call, code: &[u8; 4], iv: &[u8; 16], data: &mut [u8]) {
     };
     let track_box = track::bytes(&parameters).expect("accepted parameters");
     let keys = [KID, block(KEY)].concat();
-    assert_eq!(call(code, &track_box, &[], iv, &keys, data), 0);
+    assert_eq!(call(code, &track_box, iv, &keys, data), 0);
 }
 
 fn blocks(out: &mut impl Write, name: &str, data: &[u8]) -> io::Result<()> {

@@ -8,42 +8,26 @@ ghost use Rattle.sample_spec.specs.Sample.{inputs, sample_rows, sample_after};
 pub extern "C" fn cenc_lock(
     scheme: &[u8],
     track_box: &[u8],
-    group_entry: &[u8],
     auxiliary: &[u8],
-    key_records: &[u8],
+    key_record: &[u8],
     sample: &mut [u8],
 ) -> u8
-    ensures { (result ≡ answer (sample_rows (inputs scheme.now track_box.now group_entry.now auxiliary.now key_records.now) (length sample.old)))
-        × (sample.new ≡ sample_after Lock (inputs scheme.now track_box.now group_entry.now auxiliary.now key_records.now) sample.old) }
+    ensures { (result ≡ answer (sample_rows (inputs scheme.now track_box.now auxiliary.now key_record.now) (length sample.old)))
+        × (sample.new ≡ sample_after Lock (inputs scheme.now track_box.now auxiliary.now key_record.now) sample.old) }
 {
-    sample::lock(
-        scheme,
-        track_box,
-        group_entry,
-        auxiliary,
-        key_records,
-        sample,
-    )
+    sample::lock(scheme, track_box, auxiliary, key_record, sample)
 }
 
 #[unsafe(no_mangle)]
 pub extern "C" fn cenc_open(
     scheme: &[u8],
     track_box: &[u8],
-    group_entry: &[u8],
     auxiliary: &[u8],
-    key_records: &[u8],
+    key_record: &[u8],
     sample: &mut [u8],
 ) -> u8
-    ensures { (result ≡ answer (sample_rows (inputs scheme.now track_box.now group_entry.now auxiliary.now key_records.now) (length sample.old)))
-        × (sample.new ≡ sample_after Open (inputs scheme.now track_box.now group_entry.now auxiliary.now key_records.now) sample.old) }
+    ensures { (result ≡ answer (sample_rows (inputs scheme.now track_box.now auxiliary.now key_record.now) (length sample.old)))
+        × (sample.new ≡ sample_after Open (inputs scheme.now track_box.now auxiliary.now key_record.now) sample.old) }
 {
-    sample::open(
-        scheme,
-        track_box,
-        group_entry,
-        auxiliary,
-        key_records,
-        sample,
-    )
+    sample::open(scheme, track_box, auxiliary, key_record, sample)
 }

@@ -12,22 +12,20 @@ pub const SCHEME: usize = 2;
 
 pub const BOX: usize = 3;
 
-pub const ENTRY: usize = 4;
+pub const AUX: usize = 4;
 
-pub const AUX: usize = 5;
+pub const KEYS: usize = 5;
 
-pub const KEYS: usize = 6;
+const PIECE: usize = 6;
 
-const PIECE: usize = 7;
+pub const IN: usize = 7;
 
-pub const IN: usize = 8;
+pub const OUT: usize = 8;
 
-pub const OUT: usize = 9;
-
-const LENGTH: usize = 10;
+const LENGTH: usize = 9;
 
 // How many there are, without the length.
-const COUNT: usize = 10;
+const COUNT: usize = 9;
 
 // Puts a word at the start of a buffer and answers its length. One that is too long is cut, and still too long for a name.
 pub(crate) fn word(place: usize, text: &mut [u8]) -> usize
@@ -85,7 +83,7 @@ pub(crate) fn declared_length() -> Number {
     number(LENGTH, u64::MAX)
 }
 
-// `-` stands for no group entry, for standard input or for standard output.
+// `-` stands for standard input or standard output.
 pub(crate) fn is_standard(name: &[u8]) -> bool {
     octets::same(name, b"-")
 }

@@ -4,7 +4,7 @@ ghost use Rattle.std.specs.Prelude.{◌≤◌, length as length_of};
 use crate::{arguments, tell};
 use libc::{STDIN_FILENO, STDOUT_FILENO};
 
-// The most bytes of a box, of a group entry, of auxiliary data and of key records.
+// The most bytes of a box, of auxiliary data and of a key record.
 pub const LONGEST: usize = 4096;
 
 // A number of bytes, if it could be had.
@@ -94,29 +94,6 @@ pub(crate) fn contents(place: usize, buffer: &mut [u8]) -> Bytes
     let mut name = io::buffer();
     let length = arguments::word(place, &mut name);
     read_whole(&name[0..length], buffer)
-}
-
-// The group entry: none, of no bytes, where the word is `-`. A file without bytes is an entry too short, and not none: it is taken as one
-// byte, which is refused alike.
-pub(crate) fn group_entry(buffer: &mut [u8]) -> Bytes
-    ensures { result.count ≤ length_of buffer.old }
-{
-    let mut name = io::buffer();
-    let length = arguments::word(arguments::ENTRY, &mut name);
-    if arguments::is_standard(&name[0..length]) {
-        return Bytes {
-            good: true,
-            count: 0,
-        };
-    }
-    let read = read_whole(&name[0..length], buffer);
-    if read.count == 0 {
-        return Bytes {
-            good: read.good,
-            count: octets::least(1, buffer.len()),
-        };
-    }
-    read
 }
 
 fn unsigned(n: i64) -> usize {

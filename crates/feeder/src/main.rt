@@ -1,10 +1,10 @@
 // Locks or opens a sample, from a file into a new file, in pieces:
 //
-//     feeder lock|open SCHEME BOX ENTRY AUX KEYS PIECE IN OUT [LENGTH]
+//     feeder lock|open SCHEME BOX AUX KEYS PIECE IN OUT [LENGTH]
 //
 // A line on standard output tells how it went, for a Rattle program has no exit status of its own; standard error has the
 // system's reason for a failure. After `done N` the N bytes of OUT have reached its device; after any other line OUT is as
-// it was before. ENTRY is `-` for none, IN is `-` for standard input, whose length is then declared by LENGTH, and OUT is `-` for standard output; the line is
+// it was before. IN is `-` for standard input, whose length is then declared by LENGTH, and OUT is `-` for standard output; the line is
 // then on standard error, and what was written before a failure has gone out.
 mod arguments;
 mod feeding;
@@ -36,41 +36,34 @@ impl Begun {
     }
 }
 
-// Starts a stream by the scheme code and the contents of four files.
+// Starts a stream by the scheme code and the contents of three files.
 fn begin(direction: Direction, length: usize) -> Begun {
     let mut code = io::buffer();
     let mut track_box = [0u8; files::LONGEST + 1];
-    let mut group_entry = [0u8; files::LONGEST + 1];
     let mut auxiliary = [0u8; files::LONGEST + 1];
-    let mut key_records = [0u8; files::LONGEST + 1];
+    let mut key_record = [0u8; files::LONGEST + 1];
     let code_length = arguments::word(arguments::SCHEME, &mut code);
     let first = files::contents(arguments::BOX, &mut track_box);
     if !first.good {
         return Begun::failed();
     }
-    let second = files::group_entry(&mut group_entry);
+    let second = files::contents(arguments::AUX, &mut auxiliary);
     if !second.good {
         return Begun::failed();
     }
-    let third = files::contents(arguments::AUX, &mut auxiliary);
+    let third = files::contents(arguments::KEYS, &mut key_record);
     if !third.good {
         return Begun::failed();
     }
-    let fourth = files::contents(arguments::KEYS, &mut key_records);
-    if !fourth.good {
-        return Begun::failed();
-    }
     let box_length = first.count;
-    let entry_length = second.count;
-    let auxiliary_length = third.count;
-    let keys_length = fourth.count;
+    let auxiliary_length = second.count;
+    let key_length = third.count;
     let started = stream::start(
         direction,
         &code[0..code_length],
         &track_box[0..box_length],
-        &group_entry[0..entry_length],
         &auxiliary[0..auxiliary_length],
-        &key_records[0..keys_length],
+        &key_record[0..key_length],
         length,
     );
     if started.answer != DONE {

@@ -12,17 +12,14 @@ pub(crate) fn write_words(file: i32, answer: u8) {
         ),
         3 => io::write_all(
             file,
-            b"version above 1, flags or zero byte not zero, or a pattern in version 0; in writing a group entry, a version other than 1",
+            b"version above 1, flags or zero byte not zero, or a pattern in version 0",
         ),
         4 => io::write_all(
             file,
-            b"the fields aren't allowed, or the box or group entry is longer or shorter than they call for",
+            b"the fields aren't allowed, or the box is longer or shorter than they call for",
         ),
-        5 => io::write_all(
-            file,
-            b"not one to 32 key records of 32 bytes (KID, then key), or two with one KID",
-        ),
-        6 => io::write_all(file, b"no key record has the KID that applies"),
+        5 => io::write_all(file, b"key record not 32 bytes (KID, then key)"),
+        6 => io::write_all(file, b"the key record's KID isn't the track's"),
         7 => io::write_all(file, b"sample over 16,777,216 bytes"),
         8 => io::write_all(
             file,
@@ -39,10 +36,6 @@ pub(crate) fn write_words(file: i32, answer: u8) {
         14 => io::write_all(file, b"piece runs past the declared length"),
         15 => io::write_all(file, b"output shorter than the bytes due"),
         16 => io::write_all(file, b"end asked for too early"),
-        18 => io::write_all(
-            file,
-            b"the group entry has under 20 bytes, or its first byte isn't zero",
-        ),
         _ => io::write_all(file, b"unknown number"),
     };
 }

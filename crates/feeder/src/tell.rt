@@ -15,7 +15,7 @@ fn file() -> i32 {
 pub(crate) fn usage() {
     io::write_all(
         file(),
-        b"usage: feeder lock|open SCHEME BOX ENTRY AUX KEYS PIECE IN OUT [LENGTH], with a PIECE of 1 to 65536 bytes; - is no ENTRY, standard output, or standard input of LENGTH bytes\n",
+        b"usage: feeder lock|open SCHEME BOX AUX KEYS PIECE IN OUT [LENGTH], with a PIECE of 1 to 65536 bytes; - is standard output, or standard input of LENGTH bytes\n",
     );
 }
 

@@ -16,9 +16,9 @@ use Rattle.fips197.specs.Cipher.{sub_word, add_word}
 use Rattle.fips197.specs.KeyExpansion.{rot_word, rcon, temp, word, round_key, key_expansion, first_word, next_key}
 use Rattle.fips197.proofs.Lists.{same}
 
-temp-first : (r : ℕ) (w : Word) → temp (4 * r + 4) w ≡ add_word (sub_word (rot_word w)) (rcon r ∷ 0 ∷ 0 ∷ 0 ∷ [])
+temp_first : (r : ℕ) (w : Word) → temp (4 * r + 4) w ≡ add_word (sub_word (rot_word w)) (rcon r ∷ 0 ∷ 0 ∷ 0 ∷ [])
 unfolding temp
-temp-first r w =
+temp_first r w =
     let e : (4 * r + 4) % 4 ≡ 0 = omega arith in
     let d : (4 * r + 4) / 4 - 1 ≡ r = omega arith in
     rw (e, d)
@@ -43,7 +43,7 @@ module _ (k : State) (r : ℕ) where
       let f : i + 4 ≡ 4 * r + 4 = omega arith in
       let g : i + 3 ≡ 4 * r + 3 = omega arith in
       ap (word k) e ∙ word_next k i ∙ ap₂ (λ (m n : ℕ). add_word (word k i) (temp m (word k n))) f g
-      ∙ ap (add_word (word k i)) (temp-first r (word k (4 * r + 3)))
+      ∙ ap (add_word (word k i)) (temp_first r (word k (4 * r + 3)))
 
   word_other : (c : ℕ) → c < 3 → word k (4 * (r + 1) + (c + 1)) ≡ add_word (word k (4 * r + (c + 1))) (word k (4 * (r + 1) + c))
   word_other c h =

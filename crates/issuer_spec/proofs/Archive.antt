@@ -20,7 +20,7 @@ use Rattle.issuer_spec.specs.Issuer.{most_blocks, start, vector, bad_count}
 use Rattle.issuer_spec.specs.Grants.{grant_at, advanced, Covers}
 use Rattle.issuer_spec.specs.Archive.{Sample, answer_to, needed, block_of, LockedWith}
 use Rattle.issuer_spec.proofs.Order.{never_again, in_order}
-use Rattle.issuer_spec.proofs.Starting.{Begun, eight, sixteen, refused, begun, first-length}
+use Rattle.issuer_spec.proofs.Starting.{Begun, eight, sixteen, refused, begun, first_length}
 use Rattle.issuer_spec.proofs.NeverTwice.{vector-length, never_twice}
 
 -- ---- How many blocks a sample needs.
@@ -91,7 +91,7 @@ module _ (bytes counts : List ℕ) (k : ℕ) (a : (grant_at (start bytes).issuer
   granted_vector (sixteen l f) =
       let v = i.counter + advanced i counts k in
       let h : (grant_at i counts k).vector.0 ≡ vector Sixteen i.first v = (in_order i counts k a).handed ∙ rw f in
-      (rw (l, h) (filled_sixteen i.first v (first-length bytes)), omega arith)
+      (rw (l, h) (filled_sixteen i.first v (first_length bytes)), omega arith)
   granted_vector (refused f) = absurd (never_again i (rw f) counts k a)
 
   pub iv_handed_on : iv_of x ≡ (grant_at (start bytes).issuer counts k).vector.0

@@ -15,7 +15,7 @@ use Rattle.issuer_spec.specs.declared.Issuer.{Issuer}
 use Rattle.issuer_spec.specs.Issuer.{largest, vector, advance, start}
 use Rattle.issuer_spec.specs.Grants.{grant_at, advanced, Covers}
 use Rattle.issuer_spec.proofs.Order.{in_order, advanced_later}
-use Rattle.issuer_spec.proofs.Starting.{first-length}
+use Rattle.issuer_spec.proofs.Starting.{first_length}
 
 -- ---- One counter block.
 
@@ -108,7 +108,7 @@ module _ (bytes counts : List ℕ) (j k : ℕ) (block : List ℕ) (p : Covers by
 
   same-grant : j ≡ k
   same-grant =
-      let l = first-length bytes in
+      let l = first_length bytes in
       let after : j < k → ⊥ = not_before i l counts j k p.step q.step p.accepted q.accepted p.named q.named same_block in
       let before : k < j → ⊥ = not_before i l counts k j q.step p.step q.accepted p.accepted q.named p.named (sym same_block) in
       omega arith
@@ -117,7 +117,7 @@ module _ (bytes counts : List ℕ) (j k : ℕ) (block : List ℕ) (p : Covers by
   same_step =
       let g = in_order i counts j p.accepted in
       let h = in_order i counts k q.accepted in
-      let v = vector-length i.first (first-length bytes) i.size (i.counter + advanced i counts j) in
+      let v = vector-length i.first (first_length bytes) i.size (i.counter + advanced i counts j) in
       let l : length (grant_at i counts j).vector.0 ≡ 16 = rw g.handed v in
       distinct (grant_at i counts j).vector.0 (omega arith) p.step q.step (omega (arith, p.named, g.few))
       (omega (arith, q.named, h.few))

@@ -51,8 +51,8 @@ module _ (bytes : List ℕ) where
           sixteen (eqb-true (length bytes) 16 f) (begun_sixteen (eqb-false (length bytes) 8 e) (eqb-true (length bytes) 16 f))
       go false e false f = refused (begun-refused (eqb-false (length bytes) 8 e) (eqb-false (length bytes) 16 f))
 
-  pub first-length : length (start bytes).issuer.first ≡ 8
-  first-length = go begun
+  pub first_length : length (start bytes).issuer.first ≡ 8
+  first_length = go begun
     where
       go : Begun bytes → length (start bytes).issuer.first ≡ 8
       go (eight l e) = rw e
@@ -85,9 +85,9 @@ module _ (bytes : List ℕ) (small : (i : ℕ) → get_or bytes i 0 < 256) where
   start-vector (refused e) u = absurd (u (rw e))
 
   -- the first accepted grant hands out the start, filled out
-  pub first-grant : (counts : List ℕ) (k : ℕ) → ((j : ℕ) → j < k → (grant_at (start bytes).issuer counts j).answer ≡ 0 → ⊥)
+  pub first_grant : (counts : List ℕ) (k : ℕ) → ((j : ℕ) → j < k → (grant_at (start bytes).issuer counts j).answer ≡ 0 → ⊥)
       → (grant_at (start bytes).issuer counts k).answer ≡ 0 → (grant_at (start bytes).issuer counts k).vector.0 ≡ filled 16 bytes
-  first-grant counts k h a =
+  first_grant counts k h a =
       let i = (start bytes).issuer in
       let z : i.counter + advanced i counts k ≡ i.counter = omega (arith, not_advanced i counts k h) in
       (in_order i counts k a).handed ∙ rw z (start-vector (begun bytes) (λ u. never_again i u counts k a))

@@ -32,24 +32,22 @@ fn feed(in_place: bool, stream: Stream, piece: &[u8], out: &mut [u8]) -> Fed
 pub extern "C" fn pieces_open(
     scheme: &[u8],
     track_box: &[u8],
-    group_entry: &[u8],
     auxiliary: &[u8],
-    key_records: &[u8],
+    key_record: &[u8],
     in_place: bool,
     size: usize,
     data: &[u8],
     out: &mut [u8],
 ) -> u8
-    ensures { (result ≡ spec.answered (inputs scheme.now track_box.now group_entry.now auxiliary.now key_records.now) «data».now out.old)
-        × (out.new ≡ spec.output (inputs scheme.now track_box.now group_entry.now auxiliary.now key_records.now) «data».now out.old) }
+    ensures { (result ≡ spec.answered (inputs scheme.now track_box.now auxiliary.now key_record.now) «data».now out.old)
+        × (out.new ≡ spec.output (inputs scheme.now track_box.now auxiliary.now key_record.now) «data».now out.old) }
 {
     let started = stream::start(
         Direction::Open,
         scheme,
         track_box,
-        group_entry,
         auxiliary,
-        key_records,
+        key_record,
         data.len(),
     );
     if started.answer != DONE {

@@ -1,9 +1,9 @@
-// The lines `box`, `write`, `group` and `wgroup`: track boxes and group entries.
+// The lines `box` and `write`: track boxes.
 ghost use Rattle.std.specs.Prelude.{◌≤◌, length};
 
 use crate::line::Ends;
 use crate::{line, output};
-use track::{BoxRead, Kid, Parameters, StartVector};
+use track::{Kid, Parameters, StartVector};
 
 // `VERSION CRYPT:SKIP PROTECTED IVSIZE`, and a space after it.
 fn put_numbers(p: Parameters, out: &mut [u8], at: usize) -> usize {
@@ -25,23 +25,12 @@ pub(crate) fn put_parameters(p: Parameters, out: &mut [u8], at: usize) -> usize 
     text::put_hex(&constant_iv.bytes(), out, at)
 }
 
-// What was read, `NUMBER PARAMS`.
-fn put_read(read: BoxRead, out: &mut [u8], at: usize) -> usize {
-    let p = read.parameters;
-    let at = output::number_then(read.answer as u64, b' ', out, at);
-    put_parameters(p, out, at)
-}
-
 // `box CODE BOX`, answered `NUMBER PARAMS`.
 pub(crate) fn read(bytes: &[u8], ends: Ends, out: &mut [u8], at: usize) -> usize {
     let read = track::read(line::bytes(bytes, ends, 1), line::bytes(bytes, ends, 2));
-    put_read(read, out, at)
-}
-
-// `group CODE ENTRY`, answered `NUMBER PARAMS`.
-pub(crate) fn read_group(bytes: &[u8], ends: Ends, out: &mut [u8], at: usize) -> usize {
-    let read = track::read_group(line::bytes(bytes, ends, 1), line::bytes(bytes, ends, 2));
-    put_read(read, out, at)
+    let p = read.parameters;
+    let at = output::number_then(read.answer as u64, b' ', out, at);
+    put_parameters(p, out, at)
 }
 
 // Parameters whose last words are PROTECTED, IVSIZE, KID and CONSTANT, the words 5 to 8 of a line.
@@ -66,19 +55,6 @@ pub(crate) fn parameters(
     }
 }
 
-// Those of the words `CODE VERSION CRYPT SKIP PROTECTED IVSIZE KID CONSTANT`, 1 to 8.
-fn parameters_given(line: &[u8], bytes: &[u8], ends: Ends) -> Parameters {
-    parameters(
-        line,
-        bytes,
-        ends,
-        line::bytes(bytes, ends, 1),
-        text::number_at(line, 2, b' ', 255) as u8,
-        text::number_at(line, 3, b' ', 255) as u8,
-        text::number_at(line, 4, b' ', 255) as u8,
-    )
-}
-
 // `write CODE VERSION CRYPT SKIP PROTECTED IVSIZE KID CONSTANT ROOM`, answered `NUMBER BYTES`.
 pub(crate) fn write(
     line: &[u8],
@@ -90,23 +66,16 @@ pub(crate) fn write(
 ) -> usize
     requires { 65536 ≤ length lent.old }
 {
+    let p = parameters(
+        line,
+        bytes,
+        ends,
+        line::bytes(bytes, ends, 1),
+        text::number_at(line, 2, b' ', 255) as u8,
+        text::number_at(line, 3, b' ', 255) as u8,
+        text::number_at(line, 4, b' ', 255) as u8,
+    );
     let room = text::number_at(line, 9, b' ', line::ROOM) as usize;
-    let written = track::write(parameters_given(line, bytes, ends), &mut lent[0..room]);
-    output::answer(written.answer, line::part(lent, 0, written.length), out, at)
-}
-
-// `wgroup CODE VERSION CRYPT SKIP PROTECTED IVSIZE KID CONSTANT ROOM`, answered `NUMBER BYTES`.
-pub(crate) fn write_group(
-    line: &[u8],
-    bytes: &[u8],
-    ends: Ends,
-    lent: &mut [u8],
-    out: &mut [u8],
-    at: usize,
-) -> usize
-    requires { 65536 ≤ length lent.old }
-{
-    let room = text::number_at(line, 9, b' ', line::ROOM) as usize;
-    let written = track::write_group(parameters_given(line, bytes, ends), &mut lent[0..room]);
+    let written = track::write(p, &mut lent[0..room]);
     output::answer(written.answer, line::part(lent, 0, written.length), out, at)
 }

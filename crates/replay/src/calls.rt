@@ -23,13 +23,13 @@ fn find(line: &[u8], rows: &[u8]) -> usize {
 }
 
 // How many rows there are.
-pub const ROWS: usize = 15;
+pub const ROWS: usize = 13;
 
 // The row of a line, ROWS if it is malformed.
 pub(crate) fn row_of(line: &[u8]) -> usize {
     find(
         line,
-        b"box bb\nwrite fooooossr\ngroup bb\nwgroup fooooossr\naux bbbnb\nlock bbbbbb\nopen bbbbbb\nstream dbbbbbn c\nrecord dfopoossnnensssn c\nissuer b n\nvempty r\nvcheck b\nvrecord bn\nvadd bbwwr\nvdispose bnw",
+        b"box bb\nwrite fooooossr\naux bbnb\nlock bbbbb\nopen bbbbb\nstream dbbbbn c\nrecord dfopoossnnensssn c\nissuer b n\nvempty r\nvcheck b\nvrecord bn\nvadd bbwwr\nvdispose bnw",
     )
 }
 
@@ -56,19 +56,17 @@ fn answer_by(
     match row {
         0 => boxes::read(bytes, ends, out, at),
         1 => boxes::write(line, bytes, ends, lent, out, at),
-        2 => boxes::read_group(bytes, ends, out, at),
-        3 => boxes::write_group(line, bytes, ends, lent, out, at),
-        4 => samples::auxiliary(line, bytes, ends, out, at),
-        5 => samples::whole(Direction::Lock, line, bytes, ends, lent, out, at),
-        6 => samples::whole(Direction::Open, line, bytes, ends, lent, out, at),
-        7 => streams::started(line, bytes, ends, lent, out, at),
-        8 => streams::given(line, bytes, ends, lent, out, at),
-        9 => issuers::grants(line, bytes, ends, out, at),
-        10 => volumes::empty(line, lent, out, at),
-        11 => volumes::check(bytes, ends, out, at),
-        12 => volumes::record(line, bytes, ends, out, at),
-        13 => volumes::add(line, bytes, ends, lent, out, at),
-        14 => volumes::dispose(line, bytes, ends, out, at),
+        2 => samples::auxiliary(line, bytes, ends, out, at),
+        3 => samples::whole(Direction::Lock, line, bytes, ends, lent, out, at),
+        4 => samples::whole(Direction::Open, line, bytes, ends, lent, out, at),
+        5 => streams::started(line, bytes, ends, lent, out, at),
+        6 => streams::given(line, bytes, ends, lent, out, at),
+        7 => issuers::grants(line, bytes, ends, out, at),
+        8 => volumes::empty(line, lent, out, at),
+        9 => volumes::check(bytes, ends, out, at),
+        10 => volumes::record(line, bytes, ends, out, at),
+        11 => volumes::add(line, bytes, ends, lent, out, at),
+        12 => volumes::dispose(line, bytes, ends, out, at),
         _ => text::put(b"malformed", out, at),
     }
 }

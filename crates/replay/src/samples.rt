@@ -43,14 +43,13 @@ pub(crate) fn put_map(map: SubsampleMap, out: &mut [u8], at: usize) -> usize {
     put_entries(map, out, at)
 }
 
-// `aux CODE BOX ENTRY LENGTH AUX`, answered `NUMBER COUNT ENTRIES IV`.
+// `aux CODE BOX LENGTH AUX`, answered `NUMBER COUNT ENTRIES IV`.
 pub(crate) fn auxiliary(line: &[u8], bytes: &[u8], ends: Ends, out: &mut [u8], at: usize) -> usize {
     let read = subsample::read(
         line::bytes(bytes, ends, 1),
         line::bytes(bytes, ends, 2),
-        line::bytes(bytes, ends, 3),
-        line::bytes(bytes, ends, 5),
-        text::number_at(line, 4, b' ', u64::MAX) as usize,
+        line::bytes(bytes, ends, 4),
+        text::number_at(line, 3, b' ', u64::MAX) as usize,
     );
     let map = read.map;
     let iv = read.iv;
@@ -60,7 +59,7 @@ pub(crate) fn auxiliary(line: &[u8], bytes: &[u8], ends: Ends, out: &mut [u8], a
     text::put_hex(&iv.bytes(), out, at)
 }
 
-// `lock CODE BOX ENTRY AUX KEYS SAMPLE` and `open ..`, answered `NUMBER BYTES`.
+// `lock CODE BOX AUX KEYS SAMPLE` and `open ..`, answered `NUMBER BYTES`.
 pub(crate) fn whole(
     direction: Direction,
     line: &[u8],
@@ -70,7 +69,7 @@ pub(crate) fn whole(
     out: &mut [u8],
     at: usize,
 ) -> usize {
-    let end = text::read_bytes(text::word(line, 6, b' '), lent, 0);
+    let end = text::read_bytes(text::word(line, 5, b' '), lent, 0);
     let answer = transform(direction, bytes, ends, &mut lent[0..end]);
     output::answer(answer, line::part(lent, 0, end), out, at)
 }
@@ -78,11 +77,10 @@ pub(crate) fn whole(
 fn transform(direction: Direction, bytes: &[u8], ends: Ends, sample: &mut [u8]) -> u8 {
     let code = line::bytes(bytes, ends, 1);
     let track_box = line::bytes(bytes, ends, 2);
-    let group_entry = line::bytes(bytes, ends, 3);
-    let auxiliary = line::bytes(bytes, ends, 4);
-    let keys = line::bytes(bytes, ends, 5);
+    let auxiliary = line::bytes(bytes, ends, 3);
+    let keys = line::bytes(bytes, ends, 4);
     match direction {
-        Direction::Lock => sample::lock(code, track_box, group_entry, auxiliary, keys, sample),
-        Direction::Open => sample::open(code, track_box, group_entry, auxiliary, keys, sample),
+        Direction::Lock => sample::lock(code, track_box, auxiliary, keys, sample),
+        Direction::Open => sample::open(code, track_box, auxiliary, keys, sample),
     }
 }

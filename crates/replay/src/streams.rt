@@ -143,7 +143,7 @@ fn replies(
     put_record(stream, out, end)
 }
 
-// `stream DIRECTION CODE BOX ENTRY AUX KEYS LENGTH CALL..`, answered by the start's answer, the replies and the record.
+// `stream DIRECTION CODE BOX AUX KEYS LENGTH CALL..`, answered by the start's answer, the replies and the record.
 pub(crate) fn started(
     line: &[u8],
     bytes: &[u8],
@@ -157,7 +157,7 @@ pub(crate) fn started(
     let started = start(line, bytes, ends);
     let stream = started.stream;
     let at = output::number_then(started.answer as u64, b' ', out, at);
-    replies(stream, line, text::word_start(line, 8, b' '), lent, out, at)
+    replies(stream, line, text::word_start(line, 7, b' '), lent, out, at)
 }
 
 fn start(line: &[u8], bytes: &[u8], ends: Ends) -> Started {
@@ -167,8 +167,7 @@ fn start(line: &[u8], bytes: &[u8], ends: Ends) -> Started {
         line::bytes(bytes, ends, 3),
         line::bytes(bytes, ends, 4),
         line::bytes(bytes, ends, 5),
-        line::bytes(bytes, ends, 6),
-        text::number_at(line, 7, b' ', u64::MAX) as usize,
+        text::number_at(line, 6, b' ', u64::MAX) as usize,
     )
 }
 

@@ -1,4 +1,4 @@
-// A whole sample, locked and opened in place (document 01, "Which bytes are ciphered, and how"; document 02, Ask 1).
+// A whole sample, locked and opened in place (document 01, "Which bytes are ciphered, and how").
 ghost use Rattle.std.specs.Prelude.{◌≡◌, length};
 ghost use Rattle.octets.specs.Answers.{answer};
 ghost use Rattle.aes.specs.Block.{round_keys, encipher, decipher};
@@ -9,12 +9,40 @@ ghost use Rattle.scheme.specs.Part.{transformed};
 ghost use Rattle.sample_spec.specs.Sample as spec;
 
 use aes::Key;
-pub use keys::find_key;
 use modes::Direction;
 pub use sample_spec::{InputsRead, KeyFound, refusal};
 use subsample::SubsampleMap;
 use track::refusal::DONE;
-use track::{Parameters, StartVector};
+use track::{Kid, Parameters, StartVector};
+
+fn no_key(answer: u8) -> KeyFound
+    ensures { result ≡ record { answer = answer; key = record { 0 = zeros } } }
+{
+    KeyFound {
+        answer,
+        key: Key::new([0; Key::SIZE]),
+    }
+}
+
+// The key for some parameters in a key record of KID and key: 5 and 6. An unprotected track has none.
+pub fn find_key(parameters: Parameters, key_record: &[u8]) -> KeyFound
+    ensures { result ≡ spec.find_key parameters key_record.now }
+{
+    if parameters.protected != 1 {
+        return no_key(DONE);
+    }
+    if key_record.len() != KeyFound::RECORD {
+        return no_key(refusal::KEY_RECORD);
+    }
+    let kid = parameters.kid;
+    if !octets::same(&key_record[0..Kid::SIZE], &kid.bytes()) {
+        return no_key(refusal::KID);
+    }
+    KeyFound {
+        answer: DONE,
+        key: Key::new(octets::sixteen_at(key_record, Kid::SIZE)),
+    }
+}
 
 fn refused(answer: u8) -> InputsRead
     ensures { result ≡ record { answer = answer; parameters = unprotected; key = record { 0 = zeros }; map = empty_map; iv = record { 0 = zeros } } }
@@ -28,23 +56,22 @@ fn refused(answer: u8) -> InputsRead
     }
 }
 
-// Reads the inputs of a sample of some length: 1 to 4 of the box, 18 and 4 of the group entry, none if it has no bytes, then 5 to 12.
+// Reads the inputs of a sample of some length: 1 to 12.
 pub fn read_inputs(
     code: &[u8],
     track_box: &[u8],
-    group_entry: &[u8],
     auxiliary: &[u8],
-    key_records: &[u8],
+    key_record: &[u8],
     sample_length: usize,
 ) -> InputsRead
-    ensures { result ≡ spec.read_inputs (spec.inputs code.now track_box.now group_entry.now auxiliary.now key_records.now) sample_length }
+    ensures { result ≡ spec.read_inputs (spec.inputs code.now track_box.now auxiliary.now key_record.now) sample_length }
 {
-    let track = track::read_applicable(code, track_box, group_entry);
+    let track = track::read(code, track_box);
     if track.answer != DONE {
         return refused(track.answer);
     }
     let parameters = track.parameters;
-    let found = find_key(parameters, key_records);
+    let found = find_key(parameters, key_record);
     if found.answer != DONE {
         return refused(found.answer);
     }
@@ -85,27 +112,19 @@ fn transform(direction: Direction, inputs: InputsRead, sample: &mut [u8])
     );
 }
 
-// Locks or opens a sample where it lies: 1 to 12 and 18. A refusal changes nothing.
+// Locks or opens a sample where it lies: 1 to 12. A refusal changes nothing.
 fn process(
     direction: Direction,
     code: &[u8],
     track_box: &[u8],
-    group_entry: &[u8],
     auxiliary: &[u8],
-    key_records: &[u8],
+    key_record: &[u8],
     sample: &mut [u8],
 ) -> u8
-    ensures { (result ≡ answer (spec.sample_rows (spec.inputs code.now track_box.now group_entry.now auxiliary.now key_records.now) (length sample.old)))
-        × (sample.new ≡ spec.sample_after direction (spec.inputs code.now track_box.now group_entry.now auxiliary.now key_records.now) sample.old) }
+    ensures { (result ≡ answer (spec.sample_rows (spec.inputs code.now track_box.now auxiliary.now key_record.now) (length sample.old)))
+        × (sample.new ≡ spec.sample_after direction (spec.inputs code.now track_box.now auxiliary.now key_record.now) sample.old) }
 {
-    let inputs = read_inputs(
-        code,
-        track_box,
-        group_entry,
-        auxiliary,
-        key_records,
-        sample.len(),
-    );
+    let inputs = read_inputs(code, track_box, auxiliary, key_record, sample.len());
     if inputs.answer != DONE {
         return inputs.answer;
     }
@@ -117,21 +136,19 @@ fn process(
 pub fn lock(
     code: &[u8],
     track_box: &[u8],
-    group_entry: &[u8],
     auxiliary: &[u8],
-    key_records: &[u8],
+    key_record: &[u8],
     sample: &mut [u8],
 ) -> u8
-    ensures { (result ≡ answer (spec.sample_rows (spec.inputs code.now track_box.now group_entry.now auxiliary.now key_records.now) (length sample.old)))
-        × (sample.new ≡ spec.sample_after Lock (spec.inputs code.now track_box.now group_entry.now auxiliary.now key_records.now) sample.old) }
+    ensures { (result ≡ answer (spec.sample_rows (spec.inputs code.now track_box.now auxiliary.now key_record.now) (length sample.old)))
+        × (sample.new ≡ spec.sample_after Lock (spec.inputs code.now track_box.now auxiliary.now key_record.now) sample.old) }
 {
     process(
         Direction::Lock,
         code,
         track_box,
-        group_entry,
         auxiliary,
-        key_records,
+        key_record,
         sample,
     )
 }
@@ -140,21 +157,19 @@ pub fn lock(
 pub fn open(
     code: &[u8],
     track_box: &[u8],
-    group_entry: &[u8],
     auxiliary: &[u8],
-    key_records: &[u8],
+    key_record: &[u8],
     sample: &mut [u8],
 ) -> u8
-    ensures { (result ≡ answer (spec.sample_rows (spec.inputs code.now track_box.now group_entry.now auxiliary.now key_records.now) (length sample.old)))
-        × (sample.new ≡ spec.sample_after Open (spec.inputs code.now track_box.now group_entry.now auxiliary.now key_records.now) sample.old) }
+    ensures { (result ≡ answer (spec.sample_rows (spec.inputs code.now track_box.now auxiliary.now key_record.now) (length sample.old)))
+        × (sample.new ≡ spec.sample_after Open (spec.inputs code.now track_box.now auxiliary.now key_record.now) sample.old) }
 {
     process(
         Direction::Open,
         code,
         track_box,
-        group_entry,
         auxiliary,
-        key_records,
+        key_record,
         sample,
     )
 }

@@ -15,8 +15,9 @@ use Rattle.aes.specs.Block.{round_keys, encipher, decipher, encipher_length, dec
 use Rattle.modes_spec.specs.declared.Direction.{Direction}
 use Rattle.modes_spec.specs.Modes.{Cipher, Sized}
 use Rattle.track_spec.specs.declared.Parameters.{Parameters}
-use Rattle.track_spec.specs.Track.{known, has_constant, allowed}
-use Rattle.track_spec.proofs.Applicable.{applicable_code, applicable_held, applicable_constant, applicable-known, applicable-allowed}
+use Rattle.track_spec.specs.Track.{known, has_constant, allowed, fields_from, fields}
+use Rattle.track_spec.proofs.Fields.{constant_length, constant_bytes}
+use Rattle.track_spec.proofs.RoundTrip.{accepted}
 use Rattle.subsample_spec.specs.declared.SubsampleMap.{SubsampleMap}
 use Rattle.subsample_spec.specs.Auxiliary.{limit, longest, map_rows, map_read, iv_length, iv_read, auxiliary_rows}
 use Rattle.scheme.specs.Layout.{total}
@@ -26,14 +27,14 @@ use Rattle.scheme.proofs.Under.{clear_ciphered, fed_whole}
 use Rattle.scheme.proofs.Fitting.{fits_whole, transformed_clear}
 use Rattle.sample_spec.specs.declared.InputsRead.{InputsRead}
 use Rattle.sample_spec.specs.Sample.{Inputs, OfBytes, parameters_of, key_of, map_of, iv_of, sample_rows, handed_out, read_inputs, ciphered_by, sample_after}
-use Rattle.sample_spec.proofs.Tables.{track_accepted, auxiliary_accepted, inputs-accepted}
+use Rattle.sample_spec.proofs.Tables.{box_accepted, auxiliary_accepted, inputs-accepted}
 
 -- ---- What any inputs say.
 
 module _ (i : Inputs) where
   constant_of : length (parameters_of i).constant_iv.0 ≡ 16
-  unfolding parameters_of
-  constant_of = (applicable_held i.code i.box i.group).constant
+  unfolding parameters_of fields
+  constant_of = constant_length 12 i.code _ i.box
 
   pub iv_length_lem : length (iv_of i) ≡ 16
   unfolding iv_of iv_read
@@ -46,8 +47,8 @@ module _ (i : Inputs) where
 
   module _ (b : OfBytes i) where
     constant_bytes_of : Bytes 16 (parameters_of i).constant_iv.0
-    unfolding parameters_of
-    constant_bytes_of = applicable_constant i.code i.box i.group b.box b.group
+    unfolding parameters_of fields
+    constant_bytes_of = constant_bytes 12 i.code _ i.box b.box
 
     iv_bytes : Bytes 16 (iv_of i)
     unfolding iv_of iv_read
@@ -70,13 +71,12 @@ module _ (i : Inputs) (n : ℕ) (h : answer (sample_rows i n) ≡ 0) where
   m = map_of i
 
   known_code : known p.code ≡ true
-  unfolding parameters_of
-  known_code =
-      rw (applicable_code i.code i.box i.group) (applicable-known i.code i.box i.group (track_accepted i n h))
+  unfolding parameters_of fields fields_from
+  known_code = (accepted i.code i.box (box_accepted i n h)).known_code
 
   pub permitted : allowed p ≡ true
   unfolding parameters_of
-  permitted = applicable-allowed i.code i.box i.group (track_accepted i n h)
+  permitted = (accepted i.code i.box (box_accepted i n h)).permitted
 
   data_accepted : answer (auxiliary_rows p i.auxiliary n) ≡ 0
   data_accepted = auxiliary_accepted i n h

@@ -1,10 +1,8 @@
-pub mod Keys
 pub mod Tables
 pub mod Accepted
 pub mod Counters
 pub mod RoundTrip
 pub mod ZeroKid
 pub mod Depends
-pub mod Rotation
 pub mod WholeBlocks
 pub mod Examples

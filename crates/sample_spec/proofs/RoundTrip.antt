@@ -4,22 +4,23 @@ use mathlib.Core.List.{List}
 use mathlib.Core.Path.{◌≡◌, refl, ap, ◌∙◌}
 use Prim.Native.Nat.{ℕ, ◌<◌}
 use lib.Dec.{eqb}
-use lib.ListN.{length, get_or}
+use lib.ListN.{length, get_or, drop}
 use borrow.Author.Tests.{eqb-true, eqb-false, ne_eqb}
-use Rattle.octets.specs.Bytes.{Bytes}
+use Rattle.octets.specs.Bytes.{Bytes, filled}
+use Rattle.octets.proofs.OfBytes.{bytes_drop, zeros_bytes, filled_bytes}
 use Rattle.aes.specs.Block.{round_keys, encipher, decipher, encipher_bytes, decipher_bytes, decipher_encipher, encipher_decipher}
 use Rattle.modes_spec.specs.declared.Direction.{Direction}
 use Rattle.modes_spec.specs.Modes.{Cipher}
 use Rattle.modes_spec.specs.Undone.{back, Inverse}
 use Rattle.track_spec.specs.declared.Parameters.{Parameters}
+use Rattle.track_spec.specs.Track.{zeros}
 use Rattle.subsample_spec.specs.declared.SubsampleMap.{SubsampleMap}
 use Rattle.scheme.specs.Layout.{scheme_of, pattern_of}
 use Rattle.scheme.specs.Part.{entries_of, ciphered}
 use Rattle.scheme.proofs.Undone.{whole_back, length_whole, unmarked_stay}
 use Rattle.scheme.proofs.Under.{clear_ciphered}
-use Rattle.sample_spec.specs.Sample.{Inputs, OfBytes, parameters_of, key_of, map_of, iv_of, answered, ciphered_by, sample_after}
+use Rattle.sample_spec.specs.Sample.{Inputs, OfBytes, key_in, parameters_of, key_of, map_of, iv_of, answered, ciphered_by, sample_after}
 use Rattle.sample_spec.specs.Counters.{marked_for}
-use Rattle.sample_spec.proofs.Keys.{key_bytes}
 use Rattle.sample_spec.proofs.Accepted.{begins, after_refusal}
 
 -- the block under a key of 16 bytes
@@ -31,6 +32,15 @@ aes_inverse k =
       encipher_bytes = encipher_bytes k;
       decipher_bytes = decipher_bytes k;
     }
+
+-- the key is 16 bytes
+key_bytes : (p : Parameters) (keys : List ℕ) → ((k : ℕ) → get_or keys k 0 < 256) → Bytes 16 (key_in p keys)
+unfolding key_in
+key_bytes p keys hk = go (eqb p.protected 1)
+  where
+    go : (t : Bool) → Bytes 16 (cond t (filled 16 (drop 16 keys)) zeros)
+    go true = filled_bytes 16 (drop 16 keys) (bytes_drop 16 keys (record { size = refl; small = hk }) refl).small
+    go false = zeros_bytes 16
 
 -- a sample under parameters and a map
 module _ (E D : Cipher) (d : Direction) (p : Parameters) (m : SubsampleMap) (iv xs : List ℕ) where

@@ -1,31 +1,33 @@
--- The table of a whole_sample_lem call: the first of box and entry, key records and auxiliary data that is refused decides.
+-- The table of a whole_sample_lem call: the first of box, key record and auxiliary data that is refused decides.
 use mathlib.Core.List.{List, ◌++◌}
 use mathlib.Core.Path.{◌≡◌, sym, ap, ◌∙◌}
 use Prim.Native.Nat.{ℕ}
+use lib.Dec.{lit<}
 use borrow.Author.Tests.{ne_eqb}
 use Rattle.octets.specs.Answers.{Row, answer}
-use Rattle.octets.proofs.Answers.{join_done, join_refused, join_first}
+use Rattle.octets.proofs.Answers.{Refusals, none, more, join_done, join_refused, join_first}
 use Rattle.track_spec.specs.declared.Parameters.{Parameters}
 use Rattle.track_spec.specs.declared.BoxRead.{BoxRead}
-use Rattle.track_spec.specs.Track.{zeros, unprotected}
-use Rattle.track_spec.specs.Group.{applicable_rows, read_applicable}
-use Rattle.track_spec.proofs.Applicable.{applicable_refusals}
+use Rattle.track_spec.specs.Track.{zeros, read_rows, unprotected, read_box}
+use Rattle.track_spec.proofs.Checking.{read_refusals}
 use Rattle.subsample_spec.specs.declared.AuxiliaryRead.{AuxiliaryRead}
 use Rattle.subsample_spec.specs.Auxiliary.{empty_map, auxiliary_rows, read_under}
 use Rattle.subsample_spec.specs.Auxiliary as auxiliary
 use Rattle.sample_spec.specs.declared.KeyFound.{KeyFound}
 use Rattle.sample_spec.specs.declared.InputsRead.{InputsRead}
-use Rattle.sample_spec.specs.Keys.{key_rows, find_key}
-use Rattle.sample_spec.specs.Sample.{Inputs, parameters_of, key_of, map_of, iv_of, sample_rows, handed_out, read_inputs}
-use Rattle.sample_spec.proofs.Keys.{key_refusals}
+use Rattle.sample_spec.specs.Sample.{Inputs, key_rows, find_key, parameters_of, key_of, map_of, iv_of, sample_rows, handed_out, read_inputs}
+
+pub key_refusals : (p : Parameters) (keys : List ℕ) → Refusals (key_rows p keys)
+unfolding key_rows
+key_refusals p keys = more (lit< tt) (more (lit< tt) none)
 
 module _ (i : Inputs) (n : ℕ) where
   abbrev p : Parameters
   p = parameters_of i
 
-  -- the rows of box and entry, of the key records and of the auxiliary data
-  abbrev track_rows : List Row
-  track_rows = applicable_rows i.code i.box i.group
+  -- the rows of the box, of the key record and of the auxiliary data
+  abbrev box_rows : List Row
+  box_rows = read_rows i.code i.box
 
   abbrev keys_rows : List Row
   keys_rows = key_rows p i.keys
@@ -33,32 +35,32 @@ module _ (i : Inputs) (n : ℕ) where
   abbrev data_rows : List Row
   data_rows = auxiliary_rows p i.auxiliary n
 
-  pub track_decides : (answer track_rows ≡ 0 → ⊥) → answer (sample_rows i n) ≡ answer track_rows
+  pub box_decides : (answer box_rows ≡ 0 → ⊥) → answer (sample_rows i n) ≡ answer box_rows
   unfolding sample_rows
-  track_decides h = join_refused track_rows (keys_rows ++ data_rows) h
+  box_decides h = join_refused box_rows (keys_rows ++ data_rows) h
 
-  module _ (b : answer track_rows ≡ 0) where
-    pub track_done : answer (sample_rows i n) ≡ answer (keys_rows ++ data_rows)
+  module _ (b : answer box_rows ≡ 0) where
+    pub box_done : answer (sample_rows i n) ≡ answer (keys_rows ++ data_rows)
     unfolding sample_rows
-    track_done = join_done (applicable_refusals i.code i.box i.group) (keys_rows ++ data_rows) b
+    box_done = join_done (read_refusals i.code i.box) (keys_rows ++ data_rows) b
 
     pub key_decides : (answer keys_rows ≡ 0 → ⊥) → answer (sample_rows i n) ≡ answer keys_rows
-    key_decides h = track_done ∙ join_refused keys_rows data_rows h
+    key_decides h = box_done ∙ join_refused keys_rows data_rows h
 
     pub auxiliary_decides : answer keys_rows ≡ 0 → answer (sample_rows i n) ≡ answer data_rows
-    auxiliary_decides k = track_done ∙ join_done (key_refusals p i.keys) data_rows k
+    auxiliary_decides k = box_done ∙ join_done (key_refusals p i.keys) data_rows k
 
   -- where the call is accepted all three are
   module _ (h : answer (sample_rows i n) ≡ 0) where
-    pub track_accepted : answer track_rows ≡ 0
+    pub box_accepted : answer box_rows ≡ 0
     unfolding sample_rows
-    track_accepted = join_first track_rows (keys_rows ++ data_rows) h
+    box_accepted = join_first box_rows (keys_rows ++ data_rows) h
 
     pub key_accepted : answer keys_rows ≡ 0
-    key_accepted = join_first keys_rows data_rows (sym (track_done track_accepted) ∙ h)
+    key_accepted = join_first keys_rows data_rows (sym (box_done box_accepted) ∙ h)
 
     pub auxiliary_accepted : answer data_rows ≡ 0
-    auxiliary_accepted = sym (auxiliary_decides track_accepted key_accepted) ∙ h
+    auxiliary_accepted = sym (auxiliary_decides box_accepted key_accepted) ∙ h
 
   pub inputs-refused : (k : ℕ) → answer (sample_rows i n) ≡ k → (k ≡ 0 → ⊥)
       → read_inputs i n
@@ -72,24 +74,24 @@ module _ (i : Inputs) (n : ℕ) where
   unfolding read_inputs handed_out
   inputs-accepted e = rw e
 
--- what reading box and entry, key records and auxiliary data one after the other makes of the inputs
+-- what reading box, key record and auxiliary data one after the other makes of the inputs
 abbrev refusal : ℕ → InputsRead
 refusal k = record { answer = k; parameters = unprotected; key = record { 0 = zeros }; map = empty_map; iv = record { 0 = zeros } }
 
-module _ (i : Inputs) (n : ℕ) (r : BoxRead) (er : r ≡ read_applicable i.code i.box i.group) where
-  track_answer : r.answer ≡ answer (track_rows i n)
-  unfolding read_applicable
-  track_answer = ap (λ (r : BoxRead). r.answer) er
+module _ (i : Inputs) (n : ℕ) (r : BoxRead) (er : r ≡ read_box i.code i.box) where
+  box_answer : r.answer ≡ answer (box_rows i n)
+  unfolding read_box
+  box_answer = ap (λ (r : BoxRead). r.answer) er
 
-  pub refused_track : (r.answer ≡ 0 → ⊥) → read_inputs i n ≡ refusal r.answer
-  refused_track h = inputs-refused i n r.answer (track_decides i n (λ e. h (track_answer ∙ e)) ∙ sym track_answer) h
+  pub refused_box : (r.answer ≡ 0 → ⊥) → read_inputs i n ≡ refusal r.answer
+  refused_box h = inputs-refused i n r.answer (box_decides i n (λ e. h (box_answer ∙ e)) ∙ sym box_answer) h
 
   module _ (h0 : r.answer ≡ 0) (k : KeyFound) (ek : k ≡ find_key r.parameters i.keys) where
-    b : answer (track_rows i n) ≡ 0
-    b = sym track_answer ∙ h0
+    b : answer (box_rows i n) ≡ 0
+    b = sym box_answer ∙ h0
 
     parameters : r.parameters ≡ parameters_of i
-    unfolding read_applicable parameters_of
+    unfolding read_box parameters_of
     parameters = ap (λ (r : BoxRead). r.parameters) er ∙ rw b
 
     key_answer : k.answer ≡ answer (keys_rows i n)

@@ -1,26 +1,28 @@
 -- A sample under 0:0 gets the answer and the bytes that it gets under 1:0.
 use mathlib.Core.Bool.{true, cond}
-use mathlib.Core.List.{List, [], ◌++◌}
+use mathlib.Core.List.{List, ◌++◌}
 use mathlib.Core.Logic.{◌⊎◌, ⊎_elim}
 use mathlib.Core.Path.{◌≡◌, refl, sym, ap, ◌∙◌}
 use Prim.Native.Nat.{ℕ}
+use native.Mathlib.Nat.{le_refl}
 use lib.Dec.{eqb}
 use lib.ListN.{length}
 use Rattle.octets.specs.Answers.{answer}
 use Rattle.octets.specs.Bytes.{same}
+use Rattle.octets.proofs.OfBytes.{filled-length}
 use Rattle.octets.proofs.Tests.{&&_left}
 use Rattle.modes_spec.specs.declared.Direction.{Direction}
 use Rattle.track_spec.specs.declared.Parameters.{Parameters}
-use Rattle.track_spec.specs.Track.{cens, cbcs, known, eight_or_sixteen, pattern_or_none, allowed, allowed_fields, allowed_protected, Held, read_rows, box_bytes, parameter_rows}
-use Rattle.track_spec.specs.Group.{applicable_rows}
+use Rattle.track_spec.specs.declared.BoxRead.{BoxRead}
+use Rattle.track_spec.specs.Track.{cens, cbcs, box_length, eight_or_sixteen, pattern_or_none, allowed, allowed_fields, allowed_protected, Held, fields, fields_from, read_rows, read_box, box_bytes, parameter_rows}
 use Rattle.track_spec.proofs.Codes.{allowed_kid, allowed_constant, allowed-fields}
-use Rattle.track_spec.proofs.Applicable.{applicable_code, applicable_held, applicable-known, applicable-allowed}
+use Rattle.track_spec.proofs.Fields.{constant_length}
+use Rattle.track_spec.proofs.Checking.{write_done}
+use Rattle.track_spec.proofs.RoundTrip.{accepted, write_read}
 use Rattle.subsample_spec.specs.Auxiliary.{bad_size, entry_count, map_read, iv_read, auxiliary_rows}
-use Rattle.sample_spec.specs.Keys.{key_rows, key_in}
-use Rattle.sample_spec.specs.Sample.{Inputs, parameters_of, key_of, map_of, iv_of, answered, ciphered_by, sample_after}
+use Rattle.sample_spec.specs.Sample.{Inputs, key_rows, key_in, parameters_of, key_of, map_of, iv_of, answered, ciphered_by, sample_after}
 use Rattle.sample_spec.specs.WholeBlocks.{one_to_zero, under_one_to_zero, WholeBlocks, AsOneToZero}
-use Rattle.sample_spec.proofs.Tables.{track_done}
-use Rattle.sample_spec.proofs.Rotation.{box_accepted, under-accepted, under-parameters}
+use Rattle.sample_spec.proofs.Tables.{box_done}
 use Rattle.scheme.specs.Layout.{pattern_of, in_crypt_run}
 use Rattle.scheme.proofs.Patterns.{as_one_to_zero}
 use Rattle.scheme.proofs.SamePattern.{ciphered-same}
@@ -50,38 +52,32 @@ module _ (i : Inputs) (w : WholeBlocks i) where
   abbrev j : Inputs
   j = under_one_to_zero i
 
-  -- what applies, with 1:0
+  -- the box with 1:0 is written and read again
   one_to_zero_held : Held q
-  unfolding parameters_of
-  one_to_zero_held =
-      let held = applicable_held i.code i.box i.group in
-      record { kid = held.kid; constant = held.constant }
-
-  code_kept : q.code ≡ i.code
-  unfolding parameters_of
-  code_kept = applicable_code i.code i.box i.group
+  unfolding parameters_of fields fields_from
+  one_to_zero_held = record { kid = filled-length 16 _; constant = constant_length 12 i.code 0 i.box }
 
   one_to_zero_allowed : allowed q ≡ true
-  unfolding parameters_of
-  one_to_zero_allowed =
-      allowed_as_well p (rw code_kept w.scheme) w.protected (applicable-allowed i.code i.box i.group w.accepted)
-
-  code_known : known q.code ≡ true
-  code_known = rw code_kept (applicable-known i.code i.box i.group w.accepted)
+  unfolding parameters_of fields fields_from
+  one_to_zero_allowed = allowed_as_well p w.scheme w.protected (accepted i.code i.box w.accepted).permitted
 
   pub one_to_zero_checked : answer (parameter_rows q) ≡ 0
-  unfolding answer
-  one_to_zero_checked = rw (code_known, one_to_zero_allowed)
+  unfolding answer parameters_of fields fields_from
+  one_to_zero_checked = rw ((accepted i.code i.box w.accepted).known_code, one_to_zero_allowed)
 
-  -- its box is accepted and read as such
+  box_read : read_box i.code (box_bytes q) ≡ record { answer = 0; parameters = q }
+  unfolding parameters_of fields fields_from
+  box_read =
+      let size = box_length q.protected q.iv_size in
+      write_read q size one_to_zero_held (write_done q size one_to_zero_checked (le_refl size))
+
   one_to_zero_accepted : answer (read_rows i.code (box_bytes q)) ≡ 0
-  one_to_zero_accepted = box_accepted i q one_to_zero_held one_to_zero_checked code_kept
-
-  track_accepted : answer (applicable_rows i.code (box_bytes q) []) ≡ 0
-  track_accepted = under-accepted i q one_to_zero_held one_to_zero_checked code_kept
+  unfolding read_box
+  one_to_zero_accepted = ap (λ (r : BoxRead). r.answer) box_read
 
   pub one_to_zero_parameters : parameters_of j ≡ q
-  one_to_zero_parameters = under-parameters i q one_to_zero_held one_to_zero_checked code_kept
+  unfolding read_box parameters_of
+  one_to_zero_parameters = sym (rw one_to_zero_accepted) ∙ ap (λ (r : BoxRead). r.parameters) box_read
 
   -- key, map and IV are the same
   pub same_key : key_of j ≡ key_of i
@@ -96,7 +92,7 @@ module _ (i : Inputs) (w : WholeBlocks i) where
   unfolding iv_of iv_read
   same_iv = ap (λ (r : Parameters). iv_read r i.auxiliary) one_to_zero_parameters
 
-  -- and key records and auxiliary data get the same number
+  -- and key record and auxiliary data get the same number
   abbrev later : Parameters → ℕ → ℕ
   later r n = answer (key_rows r i.keys ++ auxiliary_rows r i.auxiliary n)
 
@@ -106,7 +102,7 @@ module _ (i : Inputs) (w : WholeBlocks i) where
 
   same_answer : (n : ℕ) → answered i n ≡ answered j n
   same_answer n =
-      track_done i n w.accepted ∙ later_same n ∙ ap (λ (r : Parameters). later r n) (sym one_to_zero_parameters) ∙ sym (track_done j n track_accepted)
+      box_done i n w.accepted ∙ later_same n ∙ ap (λ (r : Parameters). later r n) (sym one_to_zero_parameters) ∙ sym (box_done j n one_to_zero_accepted)
 
   -- the same blocks are ciphered
   pub same_blocks : (o : ℕ) → in_crypt_run (pattern_of p) o ≡ in_crypt_run (pattern_of q) o

@@ -1,9 +1,9 @@
 -- A whole_sample_lem call that is accepted is not under the zero KID, and under the zero KID nothing is ciphered; what was locked under it comes
 -- back under another KID.
-use mathlib.Core.Bool.{Bool, true, false, cond}
+use mathlib.Core.Bool.{Bool, true, false}
 use mathlib.Core.List.{List}
 use mathlib.Core.Path.{◌≡◌, refl, sym, ap, ◌∙◌}
-use Prim.Native.Nat.{ℕ, ◌/◌, ◌%◌, ◌<◌}
+use Prim.Native.Nat.{ℕ, ◌<◌}
 use native.Mathlib.Omega.{arith}
 use lib.Dec.{eqb}
 use lib.ListN.{length, get_or}
@@ -13,24 +13,23 @@ use Rattle.modes_spec.specs.declared.Direction.{Direction}
 use Rattle.modes_spec.specs.Undone.{back}
 use Rattle.track_spec.specs.declared.Parameters.{Parameters}
 use Rattle.track_spec.specs.Track.{zero_kid, fields_from, fields}
-use Rattle.track_spec.specs.Group.{entry_fields, no_entry, applicable}
 use Rattle.track_spec.specs.ZeroKid.{NonzeroIfProtected}
-use Rattle.track_spec.proofs.ZeroKid.{applicable_nonzero, zero_kid_unprotected}
+use Rattle.track_spec.proofs.ZeroKid.{read_nonzero, zero_kid_unprotected}
 use Rattle.subsample_spec.specs.Auxiliary.{iv_read}
 use Rattle.subsample_spec.specs.Depends.{AlikeData}
 use Rattle.subsample_spec.proofs.Depends.{map_alike}
 use Rattle.scheme.specs.Layout.{pattern_of, in_crypt_run}
 use Rattle.scheme.proofs.SamePattern.{ciphered-same}
-use Rattle.sample_spec.specs.Sample.{Inputs, OfBytes, parameters_of, map_of, iv_of, answered, ciphered_by, sample_after}
+use Rattle.sample_spec.specs.Sample.{Inputs, OfBytes, key_in, parameters_of, key_of, map_of, iv_of, answered, ciphered_by, sample_after}
 use Rattle.sample_spec.specs.ZeroKid.{OtherKid}
-use Rattle.sample_spec.proofs.Tables.{track_accepted}
+use Rattle.sample_spec.proofs.Tables.{box_accepted}
 use Rattle.sample_spec.proofs.Accepted.{permitted}
 use Rattle.sample_spec.proofs.RoundTrip.{accepted-after, refused_stays, unprotected_stays, given_back}
 
 module _ (i : Inputs) where
   pub sample_nonzero : (n : ℕ) → answered i n ≡ 0 → NonzeroIfProtected (parameters_of i)
   unfolding parameters_of
-  sample_nonzero n h = applicable_nonzero i.code i.box i.group (track_accepted i n h)
+  sample_nonzero n h = read_nonzero i.code i.box (box_accepted i n h)
 
   -- under the zero KID the sample stays as it is, whatever is answered
   pub zero_kid_stays : zero_kid (parameters_of i).kid.0 ≡ true → (d : Direction) (xs : List ℕ) → sample_after d i xs ≡ xs
@@ -44,15 +43,6 @@ module _ (i : Inputs) where
 
 -- ---- A sample that was locked under the zero KID.
 
--- parameters that differ at most in version and KID
-record OtherKidAt (p q : Parameters) : Type 0 where
-  code : p.code ≡ q.code
-  crypt : p.crypt ≡ q.crypt
-  skip : p.skip ≡ q.skip
-  protected : p.protected ≡ q.protected
-  iv_size : p.iv_size ≡ q.iv_size
-  constant : p.constant_iv.0 ≡ q.constant_iv.0
-
 -- No ciphered byte depends on the KID.
 module _ {i j : Inputs} (s : OtherKid i j) where
   abbrev p : Parameters
@@ -61,55 +51,29 @@ module _ {i j : Inputs} (s : OtherKid i j) where
   abbrev q : Parameters
   q = parameters_of j
 
-  none_alike : no_entry i.group ≡ no_entry j.group
-  none_alike = rw s.group_size
-
-  -- what holds of the two boxes' parameters and of the two entries'
-  either : (P : Parameters → Parameters → Type 0) → P (fields i.code i.box) (fields j.code j.box)
-      → P (entry_fields i.code i.group) (entry_fields j.code j.group) → P p q
-  unfolding parameters_of applicable
-  either P b e = rw none_alike (go (no_entry j.group))
-    where
-      go : (t : Bool)
-          → P (cond t (fields i.code i.box) (entry_fields i.code i.group)) (cond t (fields j.code j.box) (entry_fields j.code j.group))
-      go true = b
-      go false = e
-
-  other_kid_parameters : OtherKidAt p q
-  unfolding fields entry_fields fields_from
-  other_kid_parameters =
-      either OtherKidAt
-      (record {
+  data_alike : AlikeData p q i.auxiliary j.auxiliary
+  unfolding parameters_of fields fields_from
+  data_alike =
+      record {
         code = s.code;
-        crypt = ap (λ (n : ℕ). n / 16) (s.box_before 13 (omega arith));
-        skip = ap (λ (n : ℕ). n % 16) (s.box_before 13 (omega arith));
         protected = s.box_before 14 (omega arith);
         iv_size = s.box_before 15 (omega arith);
-        constant = rw (s.box_before 14 (omega arith), s.box_before 15 (omega arith), filled_alike i.box j.box 16 33 (λ k l m. s.box_behind k (omega arith)));
-      })
-      (record {
-        code = s.code;
-        crypt = ap (λ (n : ℕ). n / 16) (s.group_before 1 (omega arith));
-        skip = ap (λ (n : ℕ). n % 16) (s.group_before 1 (omega arith));
-        protected = s.group_before 2 (omega arith);
-        iv_size = s.group_before 3 (omega arith);
-        constant = rw (s.group_before 2 (omega arith), s.group_before 3 (omega arith), filled_alike i.group j.group 16 21 (λ k l m. s.group_behind k (omega arith)));
-      })
-
-  data_alike : AlikeData p q i.auxiliary j.auxiliary
-  data_alike =
-      let o = other_kid_parameters in
-      record {
-        code = o.code;
-        protected = o.protected;
-        iv_size = o.iv_size;
         size = ap length s.auxiliary;
         after = λ k l. ap (λ (b : List ℕ). get_or b k 0) s.auxiliary;
       }
 
   same_crypt_runs : (o : ℕ) → in_crypt_run (pattern_of p) o ≡ in_crypt_run (pattern_of q) o
-  unfolding pattern_of
-  same_crypt_runs o = rw (other_kid_parameters.crypt, other_kid_parameters.skip)
+  unfolding pattern_of parameters_of fields fields_from
+  same_crypt_runs o = rw (s.box_before 13 (omega arith))
+
+  same_constant : p.constant_iv.0 ≡ q.constant_iv.0
+  unfolding parameters_of fields fields_from
+  same_constant =
+      rw (s.box_before 14 (omega arith), s.box_before 15 (omega arith), filled_alike i.box j.box 16 33 (λ k l m. s.box_behind k (omega arith)))
+
+  same_key : key_of i ≡ key_of j
+  unfolding key_of key_in
+  same_key = rw (data_alike.protected, filled_alike i.keys j.keys 16 16 (λ k l m. s.key k l))
 
   same_map : map_of i ≡ map_of j
   unfolding map_of
@@ -117,12 +81,12 @@ module _ {i j : Inputs} (s : OtherKid i j) where
 
   same_iv : iv_of i ≡ iv_of j
   unfolding iv_of iv_read
-  same_iv = rw (data_alike.protected, data_alike.iv_size, other_kid_parameters.constant, s.auxiliary)
+  same_iv = rw (data_alike.protected, data_alike.iv_size, same_constant, s.auxiliary)
 
   pub other_kid_ciphers_alike : (d : Direction) (xs : List ℕ) → ciphered_by d i xs ≡ ciphered_by d j xs
   unfolding ciphered_by
   other_kid_ciphers_alike d xs =
-      rw (s.key, same_map, same_iv)
+      rw (same_key, same_map, same_iv)
       (ciphered-same p q data_alike.code data_alike.protected same_crypt_runs _ _ d (map_of j) (iv_of j) xs)
 
   -- what the one inputs make of a sample the other turns back, if they are accepted

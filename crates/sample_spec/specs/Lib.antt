@@ -1,7 +1,5 @@
-pub mod Keys
 pub mod Sample
 pub mod Counters
 pub mod Depends
-pub mod Rotation
 pub mod WholeBlocks
 pub mod ZeroKid

@@ -4,10 +4,8 @@ use Rattle.std.specs.Prelude.{List, ◌⊎◌, ◌≡◌, ℕ}
 use Rattle.octets.specs.Answers.{answer}
 use Rattle.modes_spec.specs.declared.Direction.{Direction}
 use Rattle.track_spec.specs.declared.Parameters.{Parameters}
-use Rattle.track_spec.specs.Track.{cens, cbcs, read_rows}
-use Rattle.track_spec.specs.Group.{applicable_rows}
-use Rattle.sample_spec.specs.Sample.{Inputs, parameters_of, answered, sample_after}
-use Rattle.sample_spec.specs.Rotation.{under_box}
+use Rattle.track_spec.specs.Track.{cens, cbcs, read_rows, box_bytes}
+use Rattle.sample_spec.specs.Sample.{Inputs, inputs, parameters_of, answered, sample_after}
 
 -- The parameters with 1:0, in version 1, and all else as it is.
 abbrev pub one_to_zero : Parameters → Parameters
@@ -23,14 +21,14 @@ one_to_zero p =
       constant_iv = p.constant_iv;
     }
 
--- The inputs with the box of these parameters, and no entry.
+-- The inputs with the box of these parameters.
 abbrev pub under_one_to_zero : Inputs → Inputs
-under_one_to_zero i = under_box (one_to_zero (parameters_of i)) i
+under_one_to_zero i = inputs i.code (box_bytes (one_to_zero (parameters_of i))) i.auxiliary i.keys
 
--- Box and entry are accepted, and the parameters that apply are protected ones in cens or cbcs with 0:0, in either version.
+-- The inputs have an accepted box of a protected track in cens or cbcs with 0:0, in either version.
 pub record WholeBlocks (i : Inputs) : Type 0 where
   pub scheme : (i.code ≡ cens) ⊎ (i.code ≡ cbcs)
-  pub accepted : answer (applicable_rows i.code i.box i.group) ≡ 0
+  pub accepted : answer (read_rows i.code i.box) ≡ 0
   pub protected : (parameters_of i).protected ≡ 1
   pub crypt : (parameters_of i).crypt ≡ 0
   pub skip : (parameters_of i).skip ≡ 0

@@ -1,5 +1,5 @@
 // What a caller hands in for a sample, and a whole sample locked and opened: definitions and theorems (document 01, "Which bytes are
-// ciphered, and how"; document 02, Ask 1).
+// ciphered, and how").
 pub mod refusal;
 
 use aes::Key;
@@ -16,9 +16,6 @@ pub struct KeyFound {
 impl KeyFound {
     // The bytes of a key record: the KID, then the key.
     pub const RECORD: usize = 32;
-
-    // The most key records that a call takes.
-    pub const MOST_RECORDS: usize = 32;
 }
 
 // What reading the inputs of a sample answers.

@@ -1,7 +1,7 @@
-// The numbers of key records (document 01, "Numbers answered, in the order tried"; document 02, Ask 1).
+// The numbers of a key record (document 01, "Numbers answered, in the order tried").
 
-// The key records aren't one to 32 of 32 bytes, KID and then key, or two have one KID.
-pub const KEY_RECORDS: u8 = 5;
+// The key record isn't 32 bytes, KID and then key.
+pub const KEY_RECORD: u8 = 5;
 
-// No key record has the KID that applies.
+// The key record's KID isn't the track's.
 pub const KID: u8 = 6;

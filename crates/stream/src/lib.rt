@@ -12,26 +12,18 @@ pub use stream_spec::{Declared, Ended, Fed, Progress, Started, Stream, refusal};
 use subsample::SubsampleMap;
 use track::refusal::DONE;
 
-// Starts a stream of a sample of a declared length: 1 to 12 and 18.
+// Starts a stream of a sample of a declared length: 1 to 12.
 pub fn start(
     direction: Direction,
     code: &[u8],
     track_box: &[u8],
-    group_entry: &[u8],
     auxiliary: &[u8],
-    key_records: &[u8],
+    key_record: &[u8],
     sample_length: usize,
 ) -> Started
-    ensures { result ≡ spec.start direction (inputs code.now track_box.now group_entry.now auxiliary.now key_records.now) sample_length }
+    ensures { result ≡ spec.start direction (inputs code.now track_box.now auxiliary.now key_record.now) sample_length }
 {
-    let read = sample::read_inputs(
-        code,
-        track_box,
-        group_entry,
-        auxiliary,
-        key_records,
-        sample_length,
-    );
+    let read = sample::read_inputs(code, track_box, auxiliary, key_record, sample_length);
     if read.answer != DONE {
         return Started {
             answer: read.answer,

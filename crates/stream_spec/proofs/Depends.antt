@@ -12,13 +12,13 @@ use Rattle.track_spec.specs.declared.Parameters.{Parameters}
 use Rattle.track_spec.specs.Track.{parameter_rows}
 use Rattle.track_spec.specs.Depends.{AlikeParameters}
 use Rattle.track_spec.proofs.Depends.{check_alike}
+use Rattle.track_spec.proofs.Depends as track
 use Rattle.subsample_spec.specs.declared.SubsampleMap.{SubsampleMap}
 use Rattle.scheme.specs.Layout.{pattern_of}
 use Rattle.scheme.specs.Part.{entries_of, held_under}
-use Rattle.sample_spec.specs.Sample.{Inputs, iv_of, sample_rows}
+use Rattle.sample_spec.specs.Sample.{Inputs, parameters_of, iv_of, sample_rows}
 use Rattle.sample_spec.specs.Depends.{AlikeInputs}
-use Rattle.sample_spec.proofs.Depends.{maps_alike, inputs_alike}
-use Rattle.sample_spec.proofs.Depends as sample
+use Rattle.sample_spec.proofs.Depends.{boxes_alike, maps_alike, inputs_alike}
 use Rattle.stream_spec.specs.declared.Declared.{Declared}
 use Rattle.stream_spec.specs.declared.Stream.{Stream}
 use Rattle.stream_spec.specs.Stream.{held_by, sound_declared, sound, begun, idle, declared_by, start, feed_rows, after_piece, feed, end}
@@ -145,9 +145,10 @@ module _ {i j : Inputs} (s : AlikeInputs i j) (d d' : Direction) (n : ℕ) where
   start_alike = inputs_alike s n
 
   declared_alike : AlikeDeclared (declared_by d i n) (declared_by d' j n)
+  unfolding parameters_of
   declared_alike =
       record {
-        parameters = sample.parameters_alike s;
+        parameters = rw s.code (track.parameters_alike (boxes_alike s) j.code);
         length = refl;
         map = maps_alike s;
       }

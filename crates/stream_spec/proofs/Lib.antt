@@ -9,6 +9,5 @@ pub mod Demand3
 pub mod Depends
 pub mod WholeBlocks
 pub mod ZeroKid
-pub mod Rotation
 pub mod Samples
 pub mod Numbers

@@ -10,11 +10,10 @@ use borrow.Author.Tests.{eqb-true, ne_eqb, not-false}
 use Rattle.octets.specs.Answers.{answer}
 use Rattle.octets.proofs.Answers.{done_head, join_first}
 use Rattle.modes_spec.specs.declared.Direction.{Direction}
-use Rattle.track_spec.specs.Track.{zero_kid, Held, unprotected, read_box, write_box}
-use Rattle.track_spec.specs.Group.{read_group, write_group, applicable_rows, read_applicable}
+use Rattle.track_spec.specs.Track.{zero_kid, Held, read_rows, unprotected, read_box, write_box}
 use Rattle.track_spec.specs.ZeroKid.{NonzeroIfProtected}
 use Rattle.track_spec.proofs.Checking.{check-allowed}
-use Rattle.track_spec.proofs.ZeroKid.{read_nonzero, read_group_nonzero, applicable_nonzero, checked_nonzero, written_nonzero, written_group_nonzero, zero_kid_unprotected}
+use Rattle.track_spec.proofs.ZeroKid.{read_nonzero, checked_nonzero, written_nonzero, zero_kid_unprotected}
 use Rattle.subsample_spec.specs.Auxiliary.{handed_out, read_auxiliary}
 use Rattle.scheme.specs.Machine.{Stepped}
 use Rattle.scheme.proofs.Under.{clear_fed, clear_held}
@@ -32,15 +31,6 @@ none_protected e = absurd (omega arith)
 read_parameters : (code box : List ℕ) → (read_box code box).answer ≡ 0 → NonzeroIfProtected (read_box code box).parameters
 unfolding read_box
 read_parameters code box h = rw h (read_nonzero code box h)
-
-group_parameters : (code entry : List ℕ) → (read_group code entry).answer ≡ 0 → NonzeroIfProtected (read_group code entry).parameters
-unfolding read_group
-group_parameters code entry h = rw h (read_group_nonzero code entry h)
-
-applicable-parameters : (code box entry : List ℕ) → (read_applicable code box entry).answer ≡ 0
-    → NonzeroIfProtected (read_applicable code box entry).parameters
-unfolding read_applicable
-applicable-parameters code box entry h = rw h (applicable_nonzero code box entry h)
 
 started_nonzero : (d : Direction) (i : Inputs) (n : ℕ) → NonzeroIfProtected (parameters_in (start d i n).stream)
 unfolding start
@@ -93,17 +83,14 @@ module _ (t : Stream) (piece out : List ℕ) (z : zero_kid (parameters_in t).kid
   unfolding output_after
   passes = rw (h, all_released, all_due)
 
-pub none-under_zero_kid : NoneUnderZeroKid
-unfolding write_box write_group read_auxiliary handed_out feed
-none-under_zero_kid =
+pub none_under_zero_kid : NoneUnderZeroKid
+unfolding write_box read_auxiliary handed_out feed
+none_under_zero_kid =
     record {
       read = read_parameters;
-      group_read = group_parameters;
-      both_read = applicable-parameters;
       checked = checked_nonzero;
       written = λ p room held h. written_nonzero p held room h;
-      group_written_lem = λ p room held h. written_group_nonzero p held room h;
-      data_read = λ code box entry auxiliary n h. applicable_nonzero code box entry (join_first (applicable_rows code box entry) _ h);
+      data_read = λ code box auxiliary n h. read_nonzero code box (join_first (read_rows code box) _ h);
       sample = sample_nonzero;
       started = started_nonzero;
       sound = sound_nonzero;

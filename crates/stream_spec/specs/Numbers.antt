@@ -1,4 +1,4 @@
--- Document 01, "Numbers answered, in the order tried", and document 02, Asks 1, 2 and 8: for each call small inputs with the number that the
+-- Document 01, "Numbers answered, in the order tried", and document 02, Asks 2 and 8: for each call small inputs with the number that the
 -- documents say, one for each number that the call uses and for each two neighbours of the order that apply at once. Told with it are the
 -- lengths answered and the bytes released.
 use Rattle.std.specs.Prelude.{List, [], ◌∷◌, ◌++◌, map, ℕ, length, take, drop, replicate}
@@ -9,12 +9,10 @@ use Rattle.octets.specs.Cases.{Case, is, Hold, span}
 use Rattle.modes_spec.specs.declared.Direction.TheVariants.{Lock, Open}
 use Rattle.track_spec.specs.declared.Parameters.{Parameters}
 use Rattle.track_spec.specs.Track.{cenc, cbc1, cens, cbcs, tenc, zeros, unprotected, read_box, parameter_rows, write_box, first_only, last_only}
-use Rattle.track_spec.specs.Group.{read_group, write_group}
 use Rattle.subsample_spec.specs.declared.SubsampleMap.{SubsampleMap}
 use Rattle.subsample_spec.specs.Auxiliary.{limit, empty_map, map_rows, read_under, read_auxiliary}
 use Rattle.scheme.specs.Layout.{Entry, entry}
-use Rattle.sample_spec.specs.Keys.{find_key, records}
-use Rattle.sample_spec.specs.Sample.{Inputs, inputs, parameters_of, answered, read_inputs}
+use Rattle.sample_spec.specs.Sample.{Inputs, inputs, find_key, parameters_of, answered, read_inputs}
 use Rattle.stream_spec.specs.declared.Stream.{Stream}
 use Rattle.stream_spec.specs.Stream.{progress_of, start, feed, end}
 use Rattle.stream_spec.specs.Samples.{box_under, box_with, iv_box_under, iv_box, constant_box_under, constant_box, box_of, keys_under, keys_of}
@@ -53,11 +51,8 @@ pub record Given : Type 0 where
   pub inputs : Inputs
   pub length : ℕ
 
-abbrev pub given_group : List ℕ → List ℕ → List ℕ → List ℕ → List ℕ → ℕ → Given
-given_group code box entry auxiliary keys n = record { inputs = inputs code box entry auxiliary keys; length = n }
-
 abbrev pub given : List ℕ → List ℕ → List ℕ → List ℕ → ℕ → Given
-given code box auxiliary keys n = given_group code box [] auxiliary keys n
+given code box auxiliary keys n = record { inputs = inputs code box auxiliary keys; length = n }
 
 -- ---- 1 to 4, of a box.
 
@@ -177,7 +172,7 @@ parameters =
     ∷ gives (parameters_with (ascii "senc") 2 0 0 1 8 zeros) 1 ∷ gives (parameters_with cenc 2 0 0 1 7 zeros) 3
     ∷ gives (parameters_under zeros cenc 2 0 0 1 8 zeros) 3 ∷ []
 
--- ---- 5 and 6, of key records: "5 and 6 are skipped for an unprotected track".
+-- ---- 5 and 6, of the key record: "5 and 6 are skipped for an unprotected track".
 
 abbrev pub of_keys : List ℕ → List ℕ → List ℕ → Given
 of_keys box auxiliary keys = given cenc box auxiliary keys 5
@@ -185,26 +180,12 @@ of_keys box auxiliary keys = given cenc box auxiliary keys 5
 unfoldable pub key_records : List (Asked Given)
 key_records =
     gives (of_keys (box_of 8) eight keys_of) 0 ∷ gives (of_keys clear_box [] []) 0 ∷ gives (of_keys clear_box [] (replicate 32 0)) 0
-    -- "one to 32 key records, joined", the one with the KID at any place
-    ∷ gives (of_keys (box_of 8) eight (keys_of ++ records 20 2)) 0 ∷ gives (of_keys (box_of 8) eight (records 20 1 ++ (keys_of ++ records 21 1))) 0
-    ∷ gives (of_keys (box_of 8) eight (records 20 2 ++ keys_of)) 0 ∷ gives (of_keys (box_of 8) eight (records 20 31 ++ keys_of)) 0
-    -- "5 now means another length": none, not a multiple of 32, 33 records
-    ∷ gives (of_keys (box_of 8) eight []) 5 ∷ gives (of_keys (box_of 8) eight (take 31 keys_of)) 5
-    ∷ gives (of_keys (box_of 8) eight (keys_of ++ (0 ∷ []))) 5 ∷ gives (of_keys (box_of 8) eight (keys_of ++ take 31 (records 20 1))) 5
-    ∷ gives (of_keys (box_of 8) eight (keys_of ++ records 20 32)) 5
-    -- "or two with one KID", whether or not it applies, and whatever the keys
-    ∷ gives (of_keys (box_of 8) eight (keys_of ++ keys_of)) 5 ∷ gives (of_keys (box_of 8) eight (keys_of ++ (records 20 1 ++ keys_under (span 1 16)))) 5
-    ∷ gives (of_keys (box_of 8) eight (span 1 32 ++ keys_of)) 5
-    ∷ gives (of_keys (box_of 8) eight (keys_of ++ (records 20 1 ++ records 20 1))) 5
-    ∷ gives (of_keys (box_of 8) eight (records 20 1 ++ (keys_of ++ records 20 1))) 5
-    -- KIDs that differ in one byte are two
-    ∷ gives (of_keys (box_of 8) eight (keys_under (0 ∷ span 2 15) ++ keys_of)) 0 ∷ gives (of_keys (box_of 8) eight (keys_under (span 1 15 ++ (0 ∷ [])) ++ keys_of)) 0
-    -- "6 means no record has the KID that applies"
-    ∷ gives (of_keys (box_of 8) eight (span 2 16 ++ span 101 16)) 6 ∷ gives (of_keys (box_of 8) eight (records 20 3)) 6
-    -- a key is no KID
-    ∷ gives (of_keys (box_of 8) eight (replicate 16 9 ++ span 1 16)) 6
+    -- "key record not 32 bytes (KID, then key)"
+    ∷ gives (of_keys (box_of 8) eight (take 31 keys_of)) 5 ∷ gives (of_keys (box_of 8) eight (keys_of ++ (0 ∷ []))) 5
+    -- "its KID isn't the track's"
+    ∷ gives (of_keys (box_of 8) eight (span 2 16 ++ span 101 16)) 6
     -- 5 before 6
-    ∷ gives (of_keys (box_of 8) eight (span 2 16)) 5 ∷ gives (of_keys (box_of 8) eight (records 20 1 ++ records 20 1)) 5 ∷ []
+    ∷ gives (of_keys (box_of 8) eight (span 2 16)) 5 ∷ []
 
 -- ---- 7 to 12, of auxiliary data.
 
@@ -236,72 +217,6 @@ auxiliaries =
     ∷ gives (of_data cenc 8 (auxiliary_of 8 (replicate 65 (entry 0 0))) 1) 9
     ∷ gives (of_data cenc 8 (auxiliary_of 8 (entry 0 0 ∷ [])) 1) 10
     ∷ gives (of_data cbc1 16 (auxiliary_of 16 (entry 0 31 ∷ [])) 32) 11 ∷ []
-
--- ---- 18 and 4, of a group entry.
-
--- An entry under KID 1 to 16, with a pattern byte, a protected flag, an IV size, and what follows the KID; one with a constant IV.
-abbrev pub entry_with : ℕ → ℕ → ℕ → List ℕ → List ℕ
-entry_with pattern protected iv_size after = 0 ∷ pattern ∷ protected ∷ iv_size ∷ span 1 16 ++ after
-
-abbrev pub constant_entry : ℕ → List ℕ → List ℕ
-constant_entry pattern after = entry_with pattern 1 0 (16 ∷ replicate 16 170 ++ after)
-
--- A sample of 5 bytes under an entry, of an unprotected track.
-abbrev pub of_entry : List ℕ → List ℕ → List ℕ → Given
-of_entry code entry auxiliary = given_group code clear_box entry auxiliary keys_of 5
-
-unfoldable pub group_entries : List (Asked Given)
-group_entries =
-    gives (of_entry cenc (entry_with 0 1 8 []) eight) 0 ∷ gives (of_entry cbc1 (entry_with 0 1 16 []) (replicate 16 0)) 0
-    ∷ gives (of_entry cens (entry_with 25 1 8 []) eight) 0 ∷ gives (of_entry cens (entry_with 0 1 8 []) eight) 0
-    ∷ gives (of_entry cbcs (constant_entry 25 []) []) 0 ∷ gives (of_entry cbcs (constant_entry 0 []) []) 0
-    ∷ gives (of_entry cenc (entry_with 0 0 0 []) []) 0
-    ∷ gives (of_entry (ascii "senc") (entry_with 0 1 8 []) eight) 1
-    -- "18 if it has 1 to 19 bytes or its first isn't zero"
-    ∷ gives (of_entry cenc (0 ∷ []) eight) 18 ∷ gives (of_entry cenc (take 19 (entry_with 0 1 8 [])) eight) 18
-    ∷ gives (of_entry cenc (1 ∷ drop 1 (entry_with 0 1 8 [])) eight) 18 ∷ gives (of_entry cbcs (128 ∷ drop 1 (constant_entry 25 [])) []) 18
-    -- "then 4 as for the box": the fields, the zero KID among them,
-    ∷ gives (of_entry cenc (entry_with 0 1 7 []) eight) 4 ∷ gives (of_entry cenc (entry_with 16 1 8 []) eight) 4
-    ∷ gives (of_entry cens (entry_with 1 1 8 []) eight) 4 ∷ gives (of_entry cenc (entry_with 0 2 8 []) eight) 4
-    ∷ gives (of_entry cenc (0 ∷ 0 ∷ 1 ∷ 8 ∷ zeros) eight) 4
-    -- the length, and the size of a constant IV
-    ∷ gives (of_entry cenc (entry_with 0 1 8 (0 ∷ [])) eight) 4 ∷ gives (of_entry cenc (entry_with 0 1 8 (16 ∷ replicate 16 170)) eight) 4
-    ∷ gives (of_entry cbcs (entry_with 25 1 0 []) []) 4 ∷ gives (of_entry cbcs (take 36 (constant_entry 25 [])) []) 4
-    ∷ gives (of_entry cbcs (constant_entry 25 (0 ∷ [])) []) 4 ∷ gives (of_entry cbcs (entry_with 25 1 0 (15 ∷ replicate 16 170)) []) 4
-    -- 1 before 18, 18 before 4
-    ∷ gives (of_entry (ascii "senc") (0 ∷ []) eight) 1 ∷ gives (of_entry cenc (take 19 (entry_with 0 1 7 [])) eight) 18
-    ∷ gives (of_entry cenc (1 ∷ drop 1 (entry_with 0 1 7 [])) eight) 18 ∷ []
-
--- "to a sample call, and to the auxiliary reader .. no bytes means no entry, read alone they are 18"
-unfoldable pub read_alone : List (Asked Given)
-read_alone = gives (of_entry cenc [] []) 18 ∷ gives (of_entry (ascii "senc") [] []) 1 ∷ []
-
--- The box is tried whole before the entry that replaces it, and the entry's IV size is that of the data.
-unfoldable pub box_then_entry : List (Asked Given)
-box_then_entry =
-    gives (given_group cenc (take 31 (box_of 8)) (entry_with 0 1 8 []) eight keys_of 5) 2
-    ∷ gives (given_group cenc (iv_box 2 0 8) (entry_with 0 1 8 []) eight keys_of 5) 3
-    ∷ gives (given_group cenc (iv_box 0 0 7) (entry_with 0 1 8 []) eight keys_of 5) 4
-    ∷ gives (given_group cenc (iv_box_under zeros 0 0 8) (entry_with 0 1 8 []) eight keys_of 5) 4
-    ∷ gives (given_group cenc (iv_box 0 0 7) (0 ∷ []) eight keys_of 5) 4
-    ∷ gives (given_group cenc (box_of 16) (entry_with 0 1 8 []) eight keys_of 5) 0
-    ∷ gives (given_group cenc (box_of 16) (entry_with 0 1 8 []) (replicate 16 0) keys_of 5) 8
-    ∷ gives (given_group cenc (box_of 8) (entry_with 0 0 0 []) [] keys_of 5) 0
-    ∷ gives (given_group cenc (box_of 8) (entry_with 0 0 0 []) eight keys_of 5) 8 ∷ []
-
--- "Demands 2 and 3, and the skipping of 5 and 6, read the parameters that apply to the sample."
-unfoldable pub entry_then_keys : List (Asked Given)
-entry_then_keys =
-    gives (given_group cenc clear_box (entry_with 0 1 8 []) eight [] 5) 5
-    ∷ gives (given_group cenc clear_box (entry_with 0 1 8 []) eight (records 20 1) 5) 6
-    ∷ gives (given_group cenc (box_of 8) (entry_with 0 0 0 []) [] [] 5) 0
-    ∷ gives (given_group cenc (box_of 8) (entry_with 0 0 0 []) [] (keys_of ++ keys_of) 5) 0
-    ∷ gives (given_group cenc (box_of 8) (entry_with 0 0 0 []) [] (records 20 33) 5) 0
-    -- the track's KID is not the one that applies
-    ∷ gives (given_group cenc (iv_box_under (replicate 16 20) 0 0 8) (entry_with 0 1 8 []) eight (records 20 1) 5) 6
-    ∷ gives (given_group cenc (iv_box_under (replicate 16 20) 0 0 8) (entry_with 0 1 8 []) eight keys_of 5) 0
-    -- 18 and 4 before 5
-    ∷ gives (given_group cenc (box_of 8) (0 ∷ []) eight [] 5) 18 ∷ gives (given_group cenc (box_of 8) (entry_with 0 1 7 []) eight [] 5) 4 ∷ []
 
 -- Two of these groups at once: 4 before 7 for a reader of auxiliary data; 4 before 5 and 6 before 7 for a sample.
 abbrev pub bad_box : List ℕ
@@ -397,35 +312,13 @@ box_writer =
 unfoldable pub parameter_check : List Case
 parameter_check = asked (λ p. answer (parameter_rows p)) parameters ∷ []
 
--- Document 02, Ask 1: the entry's reader uses 1, 18 and 4.
-unfoldable pub group_reader : List Case
-group_reader = asked (λ q. (read_group q.inputs.code q.inputs.group).answer) (group_entries ++ read_alone) ∷ []
-
--- Its writer 1, 3, 4 and 17: the answer and the entry's length in some room.
-abbrev pub group_written : Parameters → ℕ → List ℕ
-group_written p room = (write_group p room).answer ∷ (write_group p room).length ∷ []
-
-unfoldable pub group_writer : List Case
-group_writer =
-    is (group_written (parameters_with cenc 1 0 0 1 8 zeros) 20) (0 ∷ 20 ∷ []) ∷ is (group_written cbcs_track 37) (0 ∷ 37 ∷ [])
-    ∷ is (group_written (parameters_with cenc 1 0 0 0 0 zeros) 20) (0 ∷ 20 ∷ [])
-    ∷ is (group_written (parameters_with (ascii "senc") 1 0 0 1 8 zeros) 37) (1 ∷ 0 ∷ [])
-    -- "its writer refuses others as 3"
-    ∷ is (group_written cenc8 37) (3 ∷ 0 ∷ []) ∷ is (group_written (parameters_with cenc 2 0 0 1 8 zeros) 37) (3 ∷ 0 ∷ [])
-    ∷ is (group_written (parameters_with cenc 1 0 0 1 7 zeros) 37) (4 ∷ 0 ∷ []) ∷ is (group_written (parameters_under zeros cenc 1 0 0 1 8 zeros) 37) (4 ∷ 0 ∷ [])
-    ∷ is (group_written (parameters_with cens 1 0 1 1 8 zeros) 37) (4 ∷ 0 ∷ [])
-    ∷ is (group_written (parameters_with cenc 1 0 0 1 8 zeros) 19) (17 ∷ 0 ∷ []) ∷ is (group_written cbcs_track 36) (17 ∷ 0 ∷ [])
-    -- 1 before 3, 3 before 4, 4 before 17
-    ∷ is (group_written (parameters_with (ascii "senc") 0 0 0 1 8 zeros) 37) (1 ∷ 0 ∷ []) ∷ is (group_written (parameters_with cenc 0 0 0 1 7 zeros) 37) (3 ∷ 0 ∷ [])
-    ∷ is (group_written (parameters_with cenc 1 0 0 1 7 zeros) 0) (4 ∷ 0 ∷ []) ∷ []
-
--- "A public reader of auxiliary data takes code, box and sample length and uses 1 to 4 and 7 to 12", and 18.
+-- "A public reader of auxiliary data takes code, box and sample length and uses 1 to 4 and 7 to 12."
 unfoldable pub auxiliary_reader : List Case
 auxiliary_reader =
-    asked (λ q. (read_auxiliary q.inputs.code q.inputs.box q.inputs.group q.inputs.auxiliary q.length).answer)
-    (boxes ++ (kids ++ (auxiliaries ++ (box_then_data ++ (group_entries ++ box_then_entry))))) ∷ []
+    asked (λ q. (read_auxiliary q.inputs.code q.inputs.box q.inputs.auxiliary q.length).answer)
+    (boxes ++ (kids ++ (auxiliaries ++ box_then_data))) ∷ []
 
--- Under given parameters 7 to 12, of a map by itself 9 to 12, of key records by themselves 5 and 6.
+-- Under given parameters 7 to 12, of a map by itself 9 to 12, of a key record by itself 5 and 6.
 unfoldable pub under_parameters : List Case
 under_parameters =
     asked (λ q. (read_under (parameters_of q.inputs) q.inputs.auxiliary q.length).answer) auxiliaries
@@ -440,10 +333,9 @@ map_check = asked (λ c. answer (map_rows c.code c.map c.length)) maps ∷ []
 unfoldable pub key_finder : List Case
 key_finder = asked (λ q. (find_key (parameters_of q.inputs) q.inputs.keys).answer) key_records ∷ []
 
--- "Whole-sample calls and the start of a stream use 1 to 12", and 18.
+-- "Whole-sample calls and the start of a stream use 1 to 12".
 abbrev pub of_sample : List (Asked Given)
-of_sample =
-    boxes ++ (kids ++ (key_records ++ (auxiliaries ++ (box_then_data ++ (box_then_keys ++ (group_entries ++ (box_then_entry ++ entry_then_keys)))))))
+of_sample = boxes ++ (kids ++ (key_records ++ (auxiliaries ++ (box_then_data ++ box_then_keys))))
 
 unfoldable pub whole_sample : List Case
 whole_sample =
@@ -490,10 +382,8 @@ pub record Numbers : Type 0 where
   pub box_reader_lem : Hold box_reader
   pub box_writer_lem : Hold box_writer
   pub parameter_check_lem : Hold parameter_check
-  pub group_reader_lem : Hold group_reader
-  pub group_writer_lem : Hold group_writer
   pub auxiliary_reader_lem : Hold auxiliary_reader
-  pub under-parameters : Hold under_parameters
+  pub under_parameters_lem : Hold under_parameters
   pub map-check : Hold map_check
   pub key_finder_lem : Hold key_finder
   pub whole_sample_lem : Hold whole_sample

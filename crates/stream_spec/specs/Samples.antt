@@ -67,7 +67,7 @@ keys_of = keys_under (span 1 16)
 
 -- What a whole_sample_lem call or a start answers, for a sample of n bytes and what follows the IV.
 abbrev pub answered_for : List ℕ → ℕ → List ℕ → ℕ → List ℕ
-answered_for code iv_size after n = answered (inputs code (box_of iv_size) [] (replicate iv_size 0 ++ after) keys_of) n ∷ []
+answered_for code iv_size after n = answered (inputs code (box_of iv_size) (replicate iv_size 0 ++ after) keys_of) n ∷ []
 
 -- Feeding n bytes, with room enough.
 abbrev pub fed : ℕ → Call
@@ -84,12 +84,12 @@ answered_and_ciphered i n =
 abbrev pub whole_blocks : List ℕ → List ℕ → List ℕ → List Case
 whole_blocks code box iv =
     -- No entries, 20 bytes and 64 bytes.
-    is (answered_and_ciphered (inputs code box [] iv keys_of) 20) (0 ∷ span 0 16)
-    ∷ is (answered_and_ciphered (inputs code box [] iv keys_of) 64) (0 ∷ span 0 64)
+    is (answered_and_ciphered (inputs code box iv keys_of) 20) (0 ∷ span 0 16)
+    ∷ is (answered_and_ciphered (inputs code box iv keys_of) 64) (0 ∷ span 0 64)
     -- A range of 63 bytes.
-    ∷ is (answered_and_ciphered (inputs code box [] (iv ++ (0 ∷ 1 ∷ 0 ∷ 0 ∷ 0 ∷ 0 ∷ 0 ∷ 63 ∷ [])) keys_of) 63) (0 ∷ span 0 48)
+    ∷ is (answered_and_ciphered (inputs code box (iv ++ (0 ∷ 1 ∷ 0 ∷ 0 ∷ 0 ∷ 0 ∷ 0 ∷ 63 ∷ [])) keys_of) 63) (0 ∷ span 0 48)
     -- Entries (3,20) (0,41), of which the first ends in mid-block.
-    ∷ is (answered_and_ciphered (inputs code box [] (iv ++ (0 ∷ 2 ∷ 0 ∷ 3 ∷ 0 ∷ 0 ∷ 0 ∷ 20 ∷ 0 ∷ 0 ∷ 0 ∷ 0 ∷ 0 ∷ 41 ∷ [])) keys_of) 64)
+    ∷ is (answered_and_ciphered (inputs code box (iv ++ (0 ∷ 2 ∷ 0 ∷ 3 ∷ 0 ∷ 0 ∷ 0 ∷ 20 ∷ 0 ∷ 0 ∷ 0 ∷ 0 ∷ 0 ∷ 41 ∷ [])) keys_of) 64)
     (0 ∷ span 3 16 ++ span 23 32) ∷ []
 
 -- With no entries written, the entries of a sample of n bytes.
@@ -128,7 +128,7 @@ samples =
     ∷ whole_blocks cens (iv_box 0 0 8) (replicate 8 0) ++ (whole_blocks cens (iv_box 1 0 8) (replicate 8 0)
     ++ (whole_blocks cbcs (constant_box 0 0) [] ++ (whole_blocks cbcs (constant_box 1 0) []
     -- 0:1, in version 0 and in version 1.
-    ++ (is (answered (inputs cens (iv_box 0 1 8) [] (replicate 8 0) keys_of) 20 ∷ []) (3 ∷ [])
-    ∷ is (answered (inputs cens (iv_box 1 1 8) [] (replicate 8 0) keys_of) 20 ∷ []) (4 ∷ [])
-    ∷ is (answered (inputs cbcs (constant_box 0 1) [] [] keys_of) 20 ∷ []) (3 ∷ [])
-    ∷ is (answered (inputs cbcs (constant_box 1 1) [] [] keys_of) 20 ∷ []) (4 ∷ []) ∷ []))))
+    ++ (is (answered (inputs cens (iv_box 0 1 8) (replicate 8 0) keys_of) 20 ∷ []) (3 ∷ [])
+    ∷ is (answered (inputs cens (iv_box 1 1 8) (replicate 8 0) keys_of) 20 ∷ []) (4 ∷ [])
+    ∷ is (answered (inputs cbcs (constant_box 0 1) [] keys_of) 20 ∷ []) (3 ∷ [])
+    ∷ is (answered (inputs cbcs (constant_box 1 1) [] keys_of) 20 ∷ []) (4 ∷ []) ∷ []))))

@@ -4,8 +4,7 @@ use Rattle.std.specs.Prelude.{true, List, ◌++◌, ◌≡◌, ℕ, length, drop
 use Rattle.octets.specs.Answers.{answer}
 use Rattle.modes_spec.specs.declared.Direction.{Direction}
 use Rattle.track_spec.specs.declared.Parameters.{Parameters}
-use Rattle.track_spec.specs.Track.{zero_kid, Held, read_box, parameter_rows, write_box}
-use Rattle.track_spec.specs.Group.{read_group, write_group, applicable, read_applicable}
+use Rattle.track_spec.specs.Track.{zero_kid, Held, fields, read_box, parameter_rows, write_box}
 use Rattle.track_spec.specs.ZeroKid.{NonzeroIfProtected}
 use Rattle.subsample_spec.specs.Auxiliary.{read_auxiliary}
 use Rattle.sample_spec.specs.Sample.{Inputs, parameters_of, answered, sample_after}
@@ -17,18 +16,13 @@ abbrev pub parameters_in : Stream → Parameters
 parameters_in t = t.declared.parameters
 
 pub record NoneUnderZeroKid : Type 0 where
-  -- What is accepted, if it is protected, has a KID with a byte that isn't zero: a box, a group entry, the two together, parameters that are
-  -- checked or written in either,
+  -- What is accepted, if it is protected, has a KID with a byte that isn't zero: a box, parameters that are checked or written,
   pub read : (code box : List ℕ) → (read_box code box).answer ≡ 0 → NonzeroIfProtected (read_box code box).parameters
-  pub group_read : (code entry : List ℕ) → (read_group code entry).answer ≡ 0 → NonzeroIfProtected (read_group code entry).parameters
-  pub both_read : (code box entry : List ℕ) → (read_applicable code box entry).answer ≡ 0
-      → NonzeroIfProtected (read_applicable code box entry).parameters
   pub checked : (p : Parameters) → Held p → answer (parameter_rows p) ≡ 0 → NonzeroIfProtected p
   pub written : (p : Parameters) (room : ℕ) → Held p → (write_box p room).answer ≡ 0 → NonzeroIfProtected p
-  pub group_written_lem : (p : Parameters) (room : ℕ) → Held p → (write_group p room).answer ≡ 0 → NonzeroIfProtected p
-  -- box and entry with auxiliary data, the inputs of a sample,
-  pub data_read : (code box entry auxiliary : List ℕ) (n : ℕ) → (read_auxiliary code box entry auxiliary n).answer ≡ 0
-      → NonzeroIfProtected (applicable code box entry)
+  -- a box with auxiliary data, the inputs of a sample,
+  pub data_read : (code box auxiliary : List ℕ) (n : ℕ) → (read_auxiliary code box auxiliary n).answer ≡ 0
+      → NonzeroIfProtected (fields code box)
   pub sample : (i : Inputs) (n : ℕ) → answered i n ≡ 0 → NonzeroIfProtected (parameters_of i)
   -- the record of a start, refused or not, a sound record, and one that a piece or an end is accepted on.
   pub started : (d : Direction) (i : Inputs) (n : ℕ) → NonzeroIfProtected (parameters_in (start d i n).stream)

@@ -155,17 +155,11 @@ pub fn read_under(parameters: Parameters, auxiliary: &[u8], length: usize) -> Au
     }
 }
 
-// Reads auxiliary data under a scheme code, a track box and a group entry, none if it has no bytes: 1 to 4, 18 and 4, then 7 to 12.
-pub fn read(
-    code: &[u8],
-    track_box: &[u8],
-    group_entry: &[u8],
-    auxiliary: &[u8],
-    length: usize,
-) -> AuxiliaryRead
-    ensures { result ≡ spec.read_auxiliary code.now track_box.now group_entry.now auxiliary.now «length» }
+// Reads auxiliary data under a scheme code and a track box: 1 to 4, then 7 to 12.
+pub fn read(code: &[u8], track_box: &[u8], auxiliary: &[u8], length: usize) -> AuxiliaryRead
+    ensures { result ≡ spec.read_auxiliary code.now track_box.now auxiliary.now «length» }
 {
-    let track = track::read_applicable(code, track_box, group_entry);
+    let track = track::read(code, track_box);
     if track.answer != DONE {
         return refused(track.answer);
     }

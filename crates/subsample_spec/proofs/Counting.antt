@@ -13,12 +13,12 @@ use Rattle.octets.proofs.Bytes.{filled-short, list_of-next, length-list_of}
 use Rattle.octets.proofs.Fill.{Filled, fill_none, fill_next}
 use Rattle.subsample_spec.specs.Auxiliary.{limit, some, sum}
 
-pub some_next : (f : ℕ → Bool) (n : ℕ) → some f (n + 1) ≡ (some f n || f n)
+some_next : (f : ℕ → Bool) (n : ℕ) → some f (n + 1) ≡ (some f n || f n)
 unfolding some
 some_next f n = rw add-one
 
 -- a test that is met at i is met by some entry
-pub some_at : (f : ℕ → Bool) (n i : ℕ) → i < n → f i ≡ true → some f n ≡ true
+some_at : (f : ℕ → Bool) (n i : ℕ) → i < n → f i ≡ true → some f n ≡ true
 unfolding some
 some_at f zero i l h = absurd (omega arith)
 some_at f (suc n) i l h = go (ltb i n) refl (some_at f n i)

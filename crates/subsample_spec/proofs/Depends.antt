@@ -1,7 +1,7 @@
 -- What the answers depend on, and that accepted lengths add up.
 use mathlib.Core.Bool.{true, false}
 use mathlib.Core.List.{List, ◌++◌}
-use mathlib.Core.Path.{◌≡◌, ap, ◌∙◌}
+use mathlib.Core.Path.{◌≡◌, refl, ap, ◌∙◌}
 use Prim.Native.Nat.{ℕ, ◌+◌, ◌*◌, ◌≤◌, ◌<◌}
 use native.Mathlib.Omega.{arith}
 use lib.Dec.{eqb, ltb}
@@ -13,10 +13,10 @@ use Rattle.octets.proofs.Alike.{list_of_alike, number_alike}
 use Rattle.octets.proofs.Answers.{done_head, done_tail, join_alike}
 use Rattle.octets.proofs.Tests.{or_false_left, or_false_right}
 use Rattle.track_spec.specs.declared.Parameters.{Parameters}
-use Rattle.track_spec.specs.Group.{applicable, applicable_rows}
-use Rattle.track_spec.proofs.Applicable.{applicable_refusals}
-use Rattle.track_spec.specs.Depends.{AlikeBoxes, AlikeEntries, AlikeParameters}
-use Rattle.track_spec.proofs.Depends.{applicable_alike, read_applicable_alike}
+use Rattle.track_spec.specs.Track.{fields_from, fields, read_rows}
+use Rattle.track_spec.proofs.Checking.{read_refusals}
+use Rattle.track_spec.specs.Depends.{AlikeBoxes}
+use Rattle.track_spec.proofs.Depends.{read_alike}
 use Rattle.subsample_spec.specs.Auxiliary.{sum, entry_length, written, count_written, bad_size, entry_count, map_read, map_rows, auxiliary_rows}
 use Rattle.subsample_spec.specs.Depends.{AlikeData}
 
@@ -54,20 +54,25 @@ module _ {p q : Parameters} {a b : List ℕ} (s : AlikeData p q a b) where
   unfolding auxiliary_rows answer
   auxiliary_alike n = rw (size_alike, map_alike, s.code)
 
--- data under parameters that differ at most in KID and constant IV
-pub parameters_data : {p q : Parameters} → AlikeParameters p q → (a b : List ℕ) → length a ≡ length b
-    → ((i : ℕ) → p.iv_size ≤ i → get_or a i 0 ≡ get_or b i 0) → AlikeData p q a b
-parameters_data t a b l h = record { code = t.code; protected = t.protected; iv_size = t.iv_size; size = l; after = h }
+module _ (code : List ℕ) {x y : List ℕ} (s : AlikeBoxes x y) (n : ℕ) (a b : List ℕ) (l : length a ≡ length b)
+    (h : (i : ℕ) → get_or x 15 0 ≤ i → get_or a i 0 ≡ get_or b i 0) where
+  pub fields_alike : AlikeData (fields code x) (fields code y) a b
+  unfolding fields fields_from
+  fields_alike =
+      record {
+        code = refl;
+        protected = s.front 14 (omega arith);
+        iv_size = s.front 15 (omega arith);
+        size = l;
+        after = h;
+      }
 
--- the public reader's answer depends on KIDs only by whether that of a protected track is zero, and not on IV bytes
-pub reader_alike : (code : List ℕ) {x y e f : List ℕ} → AlikeBoxes x y → AlikeEntries e f → (n : ℕ) (a b : List ℕ) → length a ≡ length b
-    → ((i : ℕ) → (applicable code x e).iv_size ≤ i → get_or a i 0 ≡ get_or b i 0)
-    → answer (applicable_rows code x e ++ auxiliary_rows (applicable code x e) a n)
-    ≡ answer (applicable_rows code y f ++ auxiliary_rows (applicable code y f) b n)
-reader_alike code {x} {y} {e} {f} s t n a b l h =
-    join_alike (applicable_refusals code x e) (applicable_refusals code y f) (auxiliary_rows (applicable code x e) a n)
-    (auxiliary_rows (applicable code y f) b n) (read_applicable_alike s t code)
-    (auxiliary_alike (parameters_data (applicable_alike s t code) a b l h) n)
+  -- the public reader's answer depends on the KID only by whether that of a protected track is zero, and not on IV bytes
+  pub reader_alike : answer (read_rows code x ++ auxiliary_rows (fields code x) a n)
+      ≡ answer (read_rows code y ++ auxiliary_rows (fields code y) b n)
+  reader_alike =
+      join_alike (read_refusals code x) (read_refusals code y) (auxiliary_rows (fields code x) a n)
+      (auxiliary_rows (fields code y) b n) (read_alike s code) (auxiliary_alike fields_alike n)
 
 -- where entries are written and accepted their lengths add up to the sample's
 module _ (p : Parameters) (aux : List ℕ) (w : written p aux ≡ true) where

@@ -11,11 +11,14 @@ use borrow.Author.Tests.{ltb-false}
 use Rattle.octets.specs.Answers.{answer}
 use Rattle.octets.specs.Bytes.{filled}
 use Rattle.octets.proofs.Answers.{done_head}
-use Rattle.octets.proofs.Bytes.{filled_at}
+use Rattle.octets.proofs.Bytes.{filled-list_of, get_d_list_of}
 use Rattle.track_spec.specs.declared.Parameters.{Parameters}
 use Rattle.track_spec.specs.Track.{zeros, has_constant}
 use Rattle.subsample_spec.specs.declared.SubsampleMap.{SubsampleMap}
 use Rattle.subsample_spec.specs.Auxiliary.{limit, map_rows, iv_length, bad_size, iv_read}
+
+filled_at : (n : ℕ) (s : List ℕ) (i : ℕ) → i < n → get_or (filled n s) i 0 ≡ get_or s i 0
+filled_at n s i l = rw (filled-list_of n s) (get_d_list_of n (λ i. get_or s i 0) 0 i l)
 
 module _ (p : Parameters) (aux : List ℕ) (h : has_constant p.protected p.iv_size ≡ false) (i : ℕ) (l : i < 16) where
   -- the IV's bytes are those of the data

@@ -1,10 +1,9 @@
--- Document 01, "A sample's auxiliary data", and document 02, Ask 1: the IV, the subsample map, and the numbers 7 to 12.
+-- Document 01, "A sample's auxiliary data": the IV, the subsample map, and the numbers 7 to 12.
 use Rattle.std.specs.Prelude.{Bool, false, cond, not, ◌&&◌, ◌||◌, List, [], ◌∷◌, ◌++◌, refl, ℕ, zero, suc, ◌+◌, ◌*◌, ◌%◌, eqb, ltb, length, get_or, take, replicate}
 use Rattle.octets.specs.Answers.{Row, row, answer}
 use Rattle.octets.specs.Bytes.{list_of, same, number, filled}
 use Rattle.octets.specs.Cases.{Case, is, all_made, all_said, Hold, span}
-use Rattle.track_spec.specs.Track.{cenc, cbc1, zeros, has_constant}
-use Rattle.track_spec.specs.Group.{applicable, applicable_rows}
+use Rattle.track_spec.specs.Track.{cenc, cbc1, zeros, has_constant, fields, read_rows}
 use Rattle.track_spec.specs.declared.Parameters.{Parameters}
 use Rattle.subsample_spec.specs.declared.SubsampleMap.{SubsampleMap}
 use Rattle.subsample_spec.specs.declared.AuxiliaryRead.{AuxiliaryRead}
@@ -109,10 +108,10 @@ handed_out answer p aux =
 unfoldable pub read_under : Parameters → List ℕ → ℕ → AuxiliaryRead
 read_under p aux n = handed_out (answer (auxiliary_rows p aux n)) p aux
 
--- The public reader: 1 to 4 of the box, 18 and 4 of a group entry, then 7 to 12 under the parameters that apply.
-unfoldable pub read_auxiliary : List ℕ → List ℕ → List ℕ → List ℕ → ℕ → AuxiliaryRead
-read_auxiliary code box entry aux n =
-    handed_out (answer (applicable_rows code box entry ++ auxiliary_rows (applicable code box entry) aux n)) (applicable code box entry) aux
+-- The public reader: 1 to 4 of the box, then 7 to 12.
+unfoldable pub read_auxiliary : List ℕ → List ℕ → List ℕ → ℕ → AuxiliaryRead
+read_auxiliary code box aux n =
+    handed_out (answer (read_rows code box ++ auxiliary_rows (fields code box) aux n)) (fields code box) aux
 
 -- ---- Worked examples.
 

@@ -139,9 +139,9 @@ pub value-digit : (n : ℕ) → n < 16 → value (digit n) ≡ n
 value-digit n l =
     sym (get_d_list_of 16 (λ n. value (digit n)) 0 n l) ∙ ap (λ l. get_or l n 0) values ∙ get_d_list_of 16 (λ n. n) 0 n l
 
-first-digit : (k : ℕ) → 0 < k → k < 16 → digit k ≡ 48 → ⊥
+first_digit : (k : ℕ) → 0 < k → k < 16 → digit k ≡ 48 → ⊥
 unfolding value
-first-digit k l h e = omega (arith, value-digit k h, ap value e)
+first_digit k l h e = omega (arith, value-digit k h, ap value e)
 
 digits_are : (word : List ℕ) (n largest : ℕ) → digits_below 10 word ≡ true → decimal_from 0 word ≡ n → n ≤ largest
     → of_digits word largest ≡ some n
@@ -161,7 +161,7 @@ module _ (n largest : ℕ) (h : n ≤ largest) where
       let e = value-digit (n / 10) (omega arith) in
       let f = value-digit (n % 10) (omega arith) in
       let word = digit (n / 10) ∷ digit (n % 10) ∷ [] in
-      rw (decimal_two n l m, number_long word largest (omega arith) (first-digit (n / 10) (omega arith) (omega arith)))
+      rw (decimal_two n l m, number_long word largest (omega arith) (first_digit (n / 10) (omega arith) (omega arith)))
       (digits_are word n largest
       (rw (e, f, lt-ltb (n / 10) 10 (omega arith), lt-ltb (n % 10) 10 (omega arith)))
       (rw (e, f) (omega arith)) h)
@@ -173,7 +173,7 @@ module _ (n largest : ℕ) (h : n ≤ largest) where
       let f = value-digit (n / 10 % 10) (omega arith) in
       let g = value-digit (n % 10) (omega arith) in
       let word = digit (n / 100) ∷ digit (n / 10 % 10) ∷ digit (n % 10) ∷ [] in
-      rw (decimal_three n l, number_long word largest (omega arith) (first-digit (n / 100) (omega arith) (omega arith)))
+      rw (decimal_three n l, number_long word largest (omega arith) (first_digit (n / 100) (omega arith) (omega arith)))
       (digits_are word n largest
       (rw (e, f, g, lt-ltb (n / 100) 10 (omega arith), lt-ltb (n / 10 % 10) 10 (omega arith), lt-ltb (n % 10) 10 (omega arith)))
       (rw (e, f, g) (omega arith)) h)

@@ -1,13 +1,11 @@
-// The track encryption box `tenc` and the sample group entry `seig`, read (document 01, "The track box"; document 02, Ask 1); and all
-// else that a caller needs of a track.
+// The track encryption box `tenc`, read (document 01, "The track box"); and all else that a caller needs of a track.
 ghost use Rattle.std.specs.Prelude.{true, cond, ◌≡◌, ◌≤◌, drop};
 ghost use Rattle.octets.specs.Bytes.{filled};
-ghost use Rattle.track_spec.specs.Group as group;
 ghost use Rattle.track_spec.specs.Track as spec;
 
 pub use track_allowed::{check, has_constant, known};
 pub use track_spec::{BoxRead, BoxWritten, Kid, Parameters, StartVector, refusal};
-pub use track_write::{write, write_group};
+pub use track_write::write;
 
 // The KID at a place; a byte past the end counts as zero.
 fn kid(at: usize, bytes: &[u8]) -> Kid
@@ -60,20 +58,18 @@ fn bad_head(track_box: &[u8], p: Parameters) -> bool
     octets::byte_at(track_box, boxes::HEADER) != 0
 }
 
-// 4, of fields from a place on: what they hold, and the length that they call for.
-fn bad_fields(at: usize, bytes: &[u8], p: Parameters) -> bool
-    requires { at ≤ 12 }
-    ensures { result ≡ spec.bad_fields at bytes.now p }
+// 4: the fields and the length that they call for.
+fn bad_fields(track_box: &[u8], p: Parameters) -> bool
+    ensures { result ≡ spec.bad_fields track_box.now p }
 {
     if !track_allowed::allowed(p) {
         return true;
     }
-    let length = at + track_allowed::fields_length(p.protected, p.iv_size);
-    if bytes.len() != length {
+    if track_box.len() != track_allowed::box_length(p.protected, p.iv_size) {
         return true;
     }
     if has_constant(p.protected, p.iv_size) {
-        return octets::byte_at(bytes, at + Parameters::ENTRY) != Parameters::CONSTANT_IV_SIZE;
+        return octets::byte_at(track_box, Parameters::BOX) != Parameters::CONSTANT_IV_SIZE;
     }
     false
 }
@@ -101,55 +97,11 @@ pub fn read(code: &[u8], track_box: &[u8]) -> BoxRead
     if bad_head(track_box, p) {
         return refused(refusal::VERSION);
     }
-    if bad_fields(boxes::HEADER, track_box, p) {
+    if bad_fields(track_box, p) {
         return refused(refusal::FIELDS);
     }
     BoxRead {
         answer: refusal::DONE,
         parameters: p,
     }
-}
-
-// 18: the length, and the zero byte.
-fn bad_entry(group_entry: &[u8]) -> bool
-    ensures { result ≡ group.bad_entry group_entry.now }
-{
-    if group_entry.len() < Parameters::ENTRY {
-        return true;
-    }
-    octets::byte_at(group_entry, 0) != 0
-}
-
-// Reads a group entry under a scheme code: 1, 18, 4.
-pub fn read_group(code: &[u8], group_entry: &[u8]) -> BoxRead
-    ensures { result ≡ group.read_group code.now group_entry.now }
-{
-    if !known(code) {
-        return refused(refusal::SCHEME);
-    }
-    if bad_entry(group_entry) {
-        return refused(refusal::GROUP_ENTRY);
-    }
-    let p = fields(0, code, Parameters::ENTRY_VERSION, group_entry);
-    if bad_fields(0, group_entry, p) {
-        return refused(refusal::FIELDS);
-    }
-    BoxRead {
-        answer: refusal::DONE,
-        parameters: p,
-    }
-}
-
-// Reads the parameters that apply to a sample: 1 to 4 of the box, then 18 and 4 of the entry, which replaces them. No bytes are no entry.
-pub fn read_applicable(code: &[u8], track_box: &[u8], group_entry: &[u8]) -> BoxRead
-    ensures { result ≡ group.read_applicable code.now track_box.now group_entry.now }
-{
-    let track = read(code, track_box);
-    if track.answer != refusal::DONE {
-        return track;
-    }
-    if group_entry.len() == 0 {
-        return track;
-    }
-    read_group(code, group_entry)
 }

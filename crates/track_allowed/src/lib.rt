@@ -1,7 +1,6 @@
-// What a track may have (document 01, "The track box"; document 02, Asks 1, 2 and 8): the scheme codes, and which parameters are allowed.
+// What a track may have (document 01, "The track box"; document 02, Asks 2 and 8): the scheme codes, and which parameters are allowed.
 ghost use Rattle.std.specs.Prelude.{◌&&◌, ◌≡◌};
 ghost use Rattle.octets.specs.Answers.{answer};
-ghost use Rattle.track_spec.specs.Group as group;
 ghost use Rattle.track_spec.specs.Track as spec;
 
 use track_spec::{Kid, Parameters, StartVector, refusal};
@@ -135,14 +134,14 @@ pub fn bad_version(version: u8, crypt: u8, skip: u8) -> bool
     version == 0 && !no_pattern(crypt, skip)
 }
 
-// The length that the fields call for, a header before them not counted.
-pub fn fields_length(protected: u8, iv_size: u8) -> usize
-    ensures { result ≡ spec.fields_length protected iv_size }
+// The length of the box that the fields call for.
+pub fn box_length(protected: u8, iv_size: u8) -> usize
+    ensures { result ≡ spec.box_length protected iv_size }
 {
     if has_constant(protected, iv_size) {
-        Parameters::ENTRY_WITH_CONSTANT_IV
+        Parameters::BOX_WITH_CONSTANT_IV
     } else {
-        Parameters::ENTRY
+        Parameters::BOX
     }
 }
 
@@ -155,23 +154,6 @@ pub fn check(parameters: Parameters) -> u8
         return refusal::SCHEME;
     }
     if bad_version(parameters.version, parameters.crypt, parameters.skip) {
-        return refusal::VERSION;
-    }
-    if !allowed(parameters) {
-        return refusal::FIELDS;
-    }
-    refusal::DONE
-}
-
-// Checks parameters for a group entry, which has version 1: 1, 3, 4.
-pub fn check_group(parameters: Parameters) -> u8
-    ensures { result ≡ answer (group.entry_parameter_rows parameters) }
-{
-    let code = parameters.code;
-    if !names_scheme(code) {
-        return refusal::SCHEME;
-    }
-    if parameters.version != Parameters::ENTRY_VERSION {
         return refusal::VERSION;
     }
     if !allowed(parameters) {

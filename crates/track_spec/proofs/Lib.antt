@@ -2,8 +2,6 @@ pub mod Codes
 pub mod Fields
 pub mod Checking
 pub mod RoundTrip
-pub mod Group
-pub mod Applicable
 pub mod Storing
 pub mod Depends
 pub mod ZeroKid

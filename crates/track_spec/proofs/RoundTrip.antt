@@ -11,13 +11,13 @@ use lib.Seq.{drop-cons, drop-drop, drop-append-add, take_at, drop_at, get_or_at,
 use borrow.Author.Tests.{eqb-true, not-false, le-ltb, eq-eqb}
 use Rattle.octets.specs.Answers.{answer}
 use Rattle.octets.specs.Bytes.{filled}
-use Rattle.octets.proofs.Answers.{done_head, done_tail, join_first}
+use Rattle.octets.proofs.Answers.{done_head, done_tail}
 use Rattle.octets.proofs.Bytes.{same_equal, filled_long, filled_all}
 use Rattle.octets.proofs.Tests.{or_false_left, or_false_right}
 use Rattle.boxes.specs.Box as frame
 use Rattle.boxes.proofs.Frame.{frame_long, framed, header-length, size-written, type-written, version-written, flags-written, header_read}
 use Rattle.track_spec.specs.declared.Parameters.{Parameters}
-use Rattle.track_spec.specs.Track.{tenc, zeros, known, has_constant, allowed, Held, bad_version, fields_length, box_length, fields_from, fields, bad_head, bad_fields, read_rows, read_box, field_bytes, box_bytes, parameter_rows, write_rows}
+use Rattle.track_spec.specs.Track.{tenc, zeros, known, has_constant, allowed, Held, bad_version, box_length, fields_from, fields, bad_head, bad_fields, read_rows, read_box, field_bytes, box_bytes, write_rows}
 use Rattle.track_spec.proofs.Codes.{allowed_constant, allowed_small}
 
 -- ---- The fields by themselves, as they follow a header.
@@ -29,12 +29,9 @@ unfolding fields_from
 fields_dropped at code version b =
     rw (get_or-drop at b 1 0, get_or-drop at b 2 0, get_or-drop at b 3 0, drop-drop 4 at b, drop-drop 21 at b)
 
-pub fields_between : (protected iv_size : ℕ) → (20 ≤ fields_length protected iv_size) × (fields_length protected iv_size ≤ 37)
-fields_between protected iv_size = go (has_constant protected iv_size)
-  where
-    go : (t : Bool) → (20 ≤ cond t 37 20) × (cond t 37 20 ≤ 37)
-    go true = omega arith
-    go false = omega arith
+-- The length that the fields call for.
+abbrev pub fields_length : ℕ → ℕ → ℕ
+fields_length protected iv_size = cond (has_constant protected iv_size) 37 20
 
 -- What is written of fields that were read are their bytes.
 module _ (code : List ℕ) (version : ℕ) where
@@ -59,7 +56,7 @@ module _ (code : List ℕ) (version : ℕ) where
   four (z ∷ x ∷ f ∷ []) l = absurd (omega arith)
   four (z ∷ x ∷ f ∷ i ∷ r) l = refl
 
-  pub written_again : (e : List ℕ) → 20 ≤ length e → get_or e 0 0 ≡ 0 → length e ≡ fields_length (get_or e 2 0) (get_or e 3 0)
+  written_again : (e : List ℕ) → 20 ≤ length e → get_or e 0 0 ≡ 0 → length e ≡ fields_length (get_or e 2 0) (get_or e 3 0)
       → (has_constant (get_or e 2 0) (get_or e 3 0) ≡ true → get_or e 20 0 ≡ 16)
       → field_bytes (fields_from 0 code version e) ≡ e
   unfolding field_bytes fields_from
@@ -117,8 +114,9 @@ module _ (code box : List ℕ) (a : Accepted code box) where
   unfolding rest
   rest_at i k e = get_or-drop 12 box i 0 ∙ ap (λ (n : ℕ). get_or box n 0) e
 
-  rest_fits : (k : ℕ) → length box ≡ 12 + k → length rest ≡ k
-  rest_fits k e = omega (arith, rest_length)
+  rest_fits : (t : Bool) → length box ≡ cond t 49 32 → length rest ≡ cond t 37 20
+  rest_fits true e = omega (arith, rest_length)
+  rest_fits false e = omega (arith, rest_length)
 
   -- the fields' bytes are those after the header
   fields_again : field_bytes (fields code box) ≡ rest
@@ -128,7 +126,7 @@ module _ (code box : List ℕ) (a : Accepted code box) where
       let i = rest_at 3 15 refl in
       ap field_bytes (fields_dropped 12 code (frame.version box) box)
       ∙ written_again code (frame.version box) rest (omega (arith, rest_length, frame_long 32 tenc box a.whole))
-      (rest_at 0 12 refl ∙ a.zero) (rw (p, i) (rest_fits (fields_length (get_or box 14 0) (get_or box 15 0)) a.fits))
+      (rest_at 0 12 refl ∙ a.zero) (rw (p, i) (rest_fits (has_constant (get_or box 14 0) (get_or box 15 0)) a.fits))
       (rw (p, i) (λ e. rest_at 20 32 refl ∙ a.constant e))
 
 -- Writing what was read gives the bytes.
@@ -150,11 +148,6 @@ read_accepted code box h =
     let a = accepted code box h in
     let room : ltb (length box) (box_length (get_or box 14 0) (get_or box 15 0)) ≡ false = le-ltb _ _ (le_of_eq (sym a.fits)) in
     rw (a.known_code, a.version, a.permitted, room)
-
--- its parameters meet 1, 3 and 4
-pub read_checked : (code box : List ℕ) → answer (read_rows code box) ≡ 0 → answer (parameter_rows (fields code box)) ≡ 0
-unfolding write_rows
-read_checked code box h = join_first (parameter_rows (fields code box)) _ (read_accepted code box h)
 
 -- ---- Reading what was written.
 
@@ -185,17 +178,8 @@ module _ (p : Parameters) (held : Held p) (ok : allowed p ≡ true) where
           ap (filled 16) d ∙ filled_all 16 p.constant_iv.0 held.constant
       go false e = sym (same_equal p.constant_iv.0 zeros (rw e at (allowed_constant p ok)))
 
-  -- a constant IV has its size before it
-  pub constant_size : (has && not (eqb (get_or (field_bytes p) 20 0) 16)) ≡ false
-  unfolding field_bytes
-  constant_size = go has
-    where
-      go : (t : Bool) → (t && not (eqb (get_or (p.kid.0 ++ tail t) 16 0) 16)) ≡ false
-      go true = rw (get_or_at p.kid.0 16 p.constant_iv.0 0 16 held.kid)
-      go false = refl
-
   -- the fields' bytes read as p
-  pub read_again : fields_from 0 p.code p.version (field_bytes p) ≡ p
+  read_again : fields_from 0 p.code p.version (field_bytes p) ≡ p
   unfolding fields_from field_bytes
   read_again =
       let small = allowed_small p ok in
@@ -225,14 +209,22 @@ module _ (p : Parameters) (held : Held p) (ok : allowed p ≡ true) where
       ap (λ (n : ℕ). get_or (head ++ field_bytes p) n 0) j ∙ get_or-append-add head (field_bytes p) i 0
 
   pub header_and_fields : 12 + length (field_bytes p) ≡ size
-  header_and_fields = ap (λ (n : ℕ). 12 + n) length_fields
+  header_and_fields = ap (λ (n : ℕ). 12 + n) length_fields ∙ go has
+    where
+      go : (t : Bool) → 12 + cond t 37 20 ≡ cond t 49 32
+      go true = refl
+      go false = refl
 
   pub box_length_lem : length (box_bytes p) ≡ size
   unfolding box_bytes
   box_length_lem = length-append head (field_bytes p) ∙ rw head_length header_and_fields
 
   pub size_between : (32 ≤ size) × (size < 256 ^ 4)
-  size_between = omega (arith, fields_between p.protected p.iv_size)
+  size_between = go has
+    where
+      go : (t : Bool) → (32 ≤ cond t 49 32) × (cond t 49 32 < 256 ^ 4)
+      go true = omega arith
+      go false = omega arith
 
   box_frame : frame.bad_frame 32 tenc (box_bytes p) ≡ false
   unfolding box_bytes
@@ -248,14 +240,19 @@ module _ (p : Parameters) (held : Held p) (ok : allowed p ≡ true) where
       ∙ rw (version-written size p.version 0 tenc (field_bytes p) refl, drop_at head (field_bytes p) 12 head_length) read_again
 
   box_constant : (has && not (eqb (get_or (box_bytes p) 32 0) 16)) ≡ false
-  box_constant = rw (byte-behind 20 32 refl) constant_size
+  unfolding field_bytes
+  box_constant = rw (byte-behind 20 32 refl) (go has)
+    where
+      go : (t : Bool) → (t && not (eqb (get_or (p.kid.0 ++ tail t) 16 0) 16)) ≡ false
+      go true = rw (get_or_at p.kid.0 16 p.constant_iv.0 0 16 held.kid)
+      go false = refl
 
   module _ (k : known p.code ≡ true) (v : bad_version p.version p.crypt p.skip ≡ false) where
     head_good : bad_head (box_bytes p) p ≡ false
     unfolding bad_head box_bytes field_bytes
     head_good = rw (v, flags-written size p.version 0 tenc (field_bytes p) refl (omega arith), byte-behind 0 12 refl)
 
-    fields_good : bad_fields 12 (box_bytes p) p ≡ false
+    fields_good : bad_fields (box_bytes p) p ≡ false
     unfolding bad_fields
     fields_good = rw (ok, eq-eqb (length (box_bytes p)) size box_length_lem) box_constant
 

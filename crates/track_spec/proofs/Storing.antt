@@ -1,4 +1,4 @@
--- What is stored one after the other is the fields' bytes: a group entry, and after a header the box.
+-- What is stored one after the other is the fields' bytes, and after a header the box.
 use mathlib.Core.Bool.{Bool, true, false, cond}
 use mathlib.Core.List.{List, ◌∷◌, ◌++◌, append-nil}
 use mathlib.Core.Path.{◌≡◌, refl, ap, ◌∙◌}
@@ -12,7 +12,7 @@ use Rattle.octets.proofs.Fill.{placed-next}
 use Rattle.boxes.specs.Box as frame
 use Rattle.boxes.proofs.Frame.{header-length}
 use Rattle.track_spec.specs.declared.Parameters.{Parameters}
-use Rattle.track_spec.specs.Track.{tenc, has_constant, allowed, fields_length, box_length, front_bytes, field_bytes, box_bytes, Held}
+use Rattle.track_spec.specs.Track.{tenc, has_constant, allowed, box_length, front_bytes, field_bytes, box_bytes, Held}
 use Rattle.track_spec.proofs.RoundTrip.{length_fields, header_and_fields, box_length_lem}
 
 module _ (p : Parameters) (held : Held p) (ok : allowed p ≡ true) (out : List ℕ) (at : ℕ)
@@ -55,11 +55,3 @@ stored_box p held ok out room =
     placed-next out 0 head (field_bytes p) 12 (omega (arith, h)) (omega (arith, header_and_fields p held ok))
     ∙ placed_fits out 0 (head ++ field_bytes p) (omega (arith, n))
     ∙ ap (λ (k : ℕ). take 0 out ++ ((head ++ field_bytes p) ++ drop k out)) (zero-add (length (head ++ field_bytes p)) ∙ n)
-
--- the entry: the fields by themselves
-pub stored-entry : (p : Parameters) → Held p → allowed p ≡ true → (out : List ℕ) → fields_length p.protected p.iv_size ≤ length out
-    → placed out 0 (field_bytes p) ≡ field_bytes p ++ drop (fields_length p.protected p.iv_size) out
-stored-entry p held ok out room =
-    let n = length_fields p held ok in
-    placed_fits out 0 (field_bytes p) (omega (arith, n))
-    ∙ ap (λ (k : ℕ). take 0 out ++ (field_bytes p ++ drop k out)) (zero-add (length (field_bytes p)) ∙ n)

@@ -14,14 +14,11 @@ use Rattle.octets.proofs.OfBytes.{filled-length}
 use Rattle.boxes.specs.Box as frame
 use Rattle.track_spec.specs.declared.Parameters.{Parameters}
 use Rattle.track_spec.specs.Track.{tenc, known, zero_kid, under_zero_kid, allowed, Held, bad_version, fields_from, fields, bad_head, bad_fields, read_rows, parameter_rows, write_rows}
-use Rattle.track_spec.specs.Group.{bad_entry, entry_fields, read_group_rows, entry_parameter_rows, write_group_rows, applicable, applicable_rows}
 use Rattle.track_spec.specs.ZeroKid.{NonzeroKid, NonzeroIfProtected}
 use Rattle.track_spec.proofs.Fields.{constant_length}
 use Rattle.track_spec.proofs.Codes.{allowed_kid}
 use Rattle.track_spec.proofs.Checking.{check-allowed, write_refused}
 use Rattle.track_spec.proofs.RoundTrip.{accepted}
-use Rattle.track_spec.proofs.Group.{group_allowed, accepted-entry}
-use Rattle.track_spec.proofs.Applicable.{applicable_held, applicable-allowed}
 
 -- a KID of n bytes that aren't all zero has one that isn't
 some_byte : (n : ℕ) (kid : List ℕ) → length kid ≡ n → same kid (replicate n 0) ≡ false → NonzeroKid kid
@@ -58,21 +55,6 @@ read_nonzero code box h =
     (record { kid = filled-length 16 _; constant = constant_length 12 code (frame.version box) box })
     (accepted code box h).permitted
 
-pub read_group_nonzero : (code entry : List ℕ) → answer (read_group_rows code entry) ≡ 0 → NonzeroIfProtected (entry_fields code entry)
-unfolding entry_fields fields_from
-read_group_nonzero code entry h =
-    allowed_nonzero (entry_fields code entry) (record { kid = filled-length 16 _; constant = constant_length 0 code 1 entry })
-    (accepted-entry code entry h).permitted
-
-pub written_group_nonzero : (p : Parameters) → Held p → (room : ℕ) → answer (write_group_rows p room) ≡ 0 → NonzeroIfProtected p
-unfolding write_group_rows
-written_group_nonzero p held room h = allowed_nonzero p held (group_allowed p (join_first (entry_parameter_rows p) _ h))
-
--- of the parameters that apply to a sample
-pub applicable_nonzero : (code box entry : List ℕ) → answer (applicable_rows code box entry) ≡ 0 → NonzeroIfProtected (applicable code box entry)
-applicable_nonzero code box entry h =
-    allowed_nonzero (applicable code box entry) (applicable_held code box entry) (applicable-allowed code box entry h)
-
 -- under the zero KID such a track is not protected
 pub zero_kid_unprotected : (p : Parameters) → allowed p ≡ true → zero_kid p.kid.0 ≡ true → p.protected ≡ 1 → ⊥
 zero_kid_unprotected p h z one = false≢true (sym (allowed_kid p h) ∙ rw (eq-eqb p.protected 1 one, z))
@@ -100,18 +82,3 @@ module _ (code box : List ℕ) where
       → bad_head box p ≡ false → answer (read_rows code box) ≡ 4
   unfolding read_rows bad_fields answer
   zero_kid_read z k f v = rw (k, f, v, not_allowed p z)
-
--- and an entry that neither 1 nor 18, or 3, applies to
-module _ (code entry : List ℕ) where
-  abbrev q : Parameters
-  q = entry_fields code entry
-
-  pub zero_kid_read_group : under_zero_kid q.protected q.kid.0 ≡ true → known code ≡ true → bad_entry entry ≡ false
-      → answer (read_group_rows code entry) ≡ 4
-  unfolding read_group_rows bad_fields answer
-  zero_kid_read_group z k e = rw (k, e, not_allowed q z)
-
-pub zero_kid_written_group : (p : Parameters) → under_zero_kid p.protected p.kid.0 ≡ true → known p.code ≡ true → p.version ≡ 1
-    → (room : ℕ) → answer (write_group_rows p room) ≡ 4
-unfolding write_group_rows answer
-zero_kid_written_group p z k v room = rw (k, eq-eqb p.version 1 v, not_allowed p z)

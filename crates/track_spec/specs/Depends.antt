@@ -1,24 +1,17 @@
 -- Document 01, "Which number is answered .. never depends on key bytes, IV bytes or sample contents": what two calls may differ in that
--- read or write a track box or a group entry.
-use Rattle.std.specs.Prelude.{false, List, ◌≡◌, ℕ, ◌+◌, ◌<◌, length, get_or, drop}
+-- read or write a track box.
+use Rattle.std.specs.Prelude.{false, List, ◌≡◌, ℕ, ◌<◌, length, get_or, drop}
 use Rattle.octets.specs.Bytes.{filled}
 use Rattle.track_spec.specs.declared.Parameters.{Parameters}
 use Rattle.track_spec.specs.Track.{has_constant, zero_kid}
 
--- Two byte strings of one length that differ, in the fields from a place on, at most in the KID and the constant IV; of protected tracks
--- the KIDs are both zero or both not (document 02, Ask 8).
-pub record AlikeFields (at : ℕ) (a b : List ℕ) : Type 0 where
+-- Two boxes of one length that differ at most in the KID and the constant IV; of protected tracks the KIDs are both zero or both not
+-- (document 02, Ask 8).
+pub record AlikeBoxes (a b : List ℕ) : Type 0 where
   pub size : length a ≡ length b
-  pub front : (i : ℕ) → i < at + 4 → get_or a i 0 ≡ get_or b i 0
-  pub kid : get_or a (at + 2) 0 ≡ 1 → zero_kid (filled 16 (drop (at + 4) a)) ≡ zero_kid (filled 16 (drop (at + 4) b))
-  pub constant_size : get_or a (at + 20) 0 ≡ get_or b (at + 20) 0
-
--- Such boxes, and such group entries (document 02, Ask 1).
-abbrev pub AlikeBoxes : List ℕ → List ℕ → Type 0
-AlikeBoxes = AlikeFields 12
-
-abbrev pub AlikeEntries : List ℕ → List ℕ → Type 0
-AlikeEntries = AlikeFields 0
+  pub front : (i : ℕ) → i < 16 → get_or a i 0 ≡ get_or b i 0
+  pub kid : get_or a 14 0 ≡ 1 → zero_kid (filled 16 (drop 16 a)) ≡ zero_kid (filled 16 (drop 16 b))
+  pub constant_size : get_or a 32 0 ≡ get_or b 32 0
 
 -- Parameters that differ at most in the KID and in a constant IV that is called for, with KIDs as above.
 pub record AlikeParameters (p q : Parameters) : Type 0 where

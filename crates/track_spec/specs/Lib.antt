@@ -1,4 +1,3 @@
 pub mod Track
-pub mod Group
 pub mod Depends
 pub mod ZeroKid

@@ -91,12 +91,9 @@ pub record Held (p : Parameters) : Type 0 where
 abbrev pub bad_version : ℕ → ℕ → ℕ → Bool
 bad_version version crypt skip = ltb 1 version || (eqb version 0 && not (no_pattern crypt skip))
 
--- The length that the fields call for, and that of a box, which has a header of 12 bytes before them.
-abbrev pub fields_length : ℕ → ℕ → ℕ
-fields_length protected iv_size = cond (has_constant protected iv_size) 37 20
-
+-- The length that the fields call for.
 abbrev pub box_length : ℕ → ℕ → ℕ
-box_length protected iv_size = 12 + fields_length protected iv_size
+box_length protected iv_size = cond (has_constant protected iv_size) 49 32
 
 -- ---- Reading.
 
@@ -124,17 +121,17 @@ unfoldable pub bad_head : List ℕ → Parameters → Bool
 bad_head box p =
     bad_version p.version p.crypt p.skip || not (eqb (frame.flags box) 0) || not (eqb (get_or box 12 0) 0)
 
--- 4, of fields from a place on: they aren't allowed, or more or fewer bytes stand there than they call for; a constant IV has 16 bytes.
-unfoldable pub bad_fields : ℕ → List ℕ → Parameters → Bool
-bad_fields at b p =
-    not (allowed p) || not (eqb (length b) (at + fields_length p.protected p.iv_size))
-    || (has_constant p.protected p.iv_size && not (eqb (get_or b (at + 20) 0) 16))
+-- 4: fields that aren't allowed, or a box that is longer or shorter than they call for; a constant IV has 16 bytes.
+unfoldable pub bad_fields : List ℕ → Parameters → Bool
+bad_fields box p =
+    not (allowed p) || not (eqb (length box) (box_length p.protected p.iv_size))
+    || (has_constant p.protected p.iv_size && not (eqb (get_or box 32 0) 16))
 
 -- 2: under 32 bytes, a size that isn't the slice's length, or a type that isn't `tenc`.
 unfoldable pub read_rows : List ℕ → List ℕ → List Row
 read_rows code box =
     row 1 (not (known code)) ∷ row 2 (frame.bad_frame 32 tenc box) ∷ row 3 (bad_head box (fields code box))
-    ∷ row 4 (bad_fields 12 box (fields code box)) ∷ []
+    ∷ row 4 (bad_fields box (fields code box)) ∷ []
 
 -- The parameters of an empty unprotected cenc track in version 0.
 abbrev pub unprotected : Parameters
@@ -202,7 +199,7 @@ constant_box_under kid version pattern =
     0x00 ∷ 0x00 ∷ 0x00 ∷ 0x31 ∷ 0x74 ∷ 0x65 ∷ 0x6e ∷ 0x63 ∷ version ∷ 0x00 ∷ 0x00 ∷ 0x00 ∷ 0x00 ∷ pattern ∷ 0x01 ∷ 0x00
     ∷ kid ++ (0x10 ∷ replicate 16 0xaa)
 
-abbrev pub box_under : List ℕ → ℕ → ℕ → ℕ → ℕ → List ℕ
+abbrev box_under : List ℕ → ℕ → ℕ → ℕ → ℕ → List ℕ
 box_under kid version pattern protected iv_size =
     0x00 ∷ 0x00 ∷ 0x00 ∷ 0x20 ∷ 0x74 ∷ 0x65 ∷ 0x6e ∷ 0x63 ∷ version ∷ 0x00 ∷ 0x00 ∷ 0x00 ∷ 0x00 ∷ pattern ∷ protected ∷ iv_size ∷ kid
 
@@ -213,7 +210,7 @@ constant_box = constant_box_under (span 0 16)
 abbrev iv_box : ℕ → ℕ → List ℕ
 iv_box version pattern = box_under (span 0 16) version pattern 1 16
 
-abbrev pub sheet_box : List ℕ
+abbrev sheet_box : List ℕ
 sheet_box = constant_box 0x01 0x19
 
 -- What is answered under a code to 0:0 in version 0 and 1, to 1:0 in version 1, and to 0:1 in version 0 and 1.
@@ -223,7 +220,7 @@ answers_to code box =
     ∷ answer (read_rows code (box 0 0x01)) ∷ answer (read_rows code (box 1 0x01)) ∷ []
 
 -- Version, pattern, protected flag, IV size, KID and constant IV.
-abbrev pub numbers_of : Parameters → List ℕ
+abbrev numbers_of : Parameters → List ℕ
 numbers_of p = p.version ∷ p.crypt ∷ p.skip ∷ p.protected ∷ p.iv_size ∷ p.kid.0 ++ p.constant_iv.0
 
 pub examples : List Case

@@ -1,5 +1,5 @@
-// The track encryption box `tenc` and the sample group entry `seig`: what they hold, and the numbers that reading and writing answer;
-// definitions and theorems (document 01, "The track box"; document 02, Ask 1).
+// The track encryption box `tenc`: what it holds, and the numbers that reading and writing answer; definitions and theorems
+// (document 01, "The track box").
 pub mod refusal;
 
 ghost use Rattle.std.specs.Prelude.{◌≡◌};
@@ -45,7 +45,7 @@ impl StartVector {
     }
 }
 
-// What a track's box or a group entry holds, the scheme's code with it.
+// What a track's box holds, the scheme's code with it.
 #[derive(Drop)]
 pub struct Parameters {
     pub code: [u8; 4],
@@ -59,18 +59,12 @@ pub struct Parameters {
 }
 
 impl Parameters {
-    // The length of a box without a constant IV.
+    // The lengths of a box without and with a constant IV.
     pub const BOX: usize = 32;
 
-    // The lengths of a group entry, which is a box's fields without its header, without and with a constant IV.
-    pub const ENTRY: usize = 20;
+    pub const BOX_WITH_CONSTANT_IV: usize = 49;
 
-    pub const ENTRY_WITH_CONSTANT_IV: usize = 37;
-
-    // The version that the parameters of a group entry have.
-    pub const ENTRY_VERSION: u8 = 1;
-
-    // The constant IV size that is named before it.
+    // The constant IV size that a box names.
     pub const CONSTANT_IV_SIZE: u8 = 16;
 
     // The largest crypt count and the largest skip count.
@@ -93,14 +87,14 @@ impl Parameters {
     }
 }
 
-// What reading a box or a group entry answers.
+// What reading a box answers.
 #[derive(Drop)]
 pub struct BoxRead {
     pub answer: u8,
     pub parameters: Parameters,
 }
 
-// What writing a box or a group entry answers: the number of bytes written, 0 if refused.
+// What writing a box answers: the number of bytes written, 0 if refused.
 #[derive(Drop)]
 pub struct BoxWritten {
     pub answer: u8,

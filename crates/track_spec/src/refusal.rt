@@ -10,11 +10,8 @@ pub const FRAME: u8 = 2;
 // Version above 1, flags or zero byte not zero, or a pattern in version 0.
 pub const VERSION: u8 = 3;
 
-// The fields aren't allowed, or the box or entry is longer or shorter than they call for.
+// The fields aren't allowed, or the box is longer or shorter than they call for.
 pub const FIELDS: u8 = 4;
 
-// The output is too short for the box or entry being written.
+// The output is too short for the box being written.
 pub const ROOM: u8 = 17;
-
-// The group entry has under 20 bytes, or its first byte isn't zero.
-pub const GROUP_ENTRY: u8 = 18;

@@ -1,7 +1,6 @@
-// The track encryption box `tenc` and the sample group entry `seig`, written (document 01, "The track box"; document 02, Ask 1).
+// The track encryption box `tenc`, written (document 01, "The track box").
 ghost use Rattle.std.specs.Prelude.{true, ◌∷◌, ◌++◌, ◌≡◌, ◌+◌, ◌≤◌, length, drop};
 ghost use Rattle.octets.specs.Bytes.{placed};
-ghost use Rattle.track_spec.specs.Group as group;
 ghost use Rattle.track_spec.specs.Track as spec;
 
 use track_spec::{BoxWritten, Parameters, StartVector, refusal};
@@ -45,13 +44,6 @@ fn store_fields(p: Parameters, out: &mut [u8], at: usize)
     }
 }
 
-// The length of the box that the fields call for.
-fn box_length(protected: u8, iv_size: u8) -> usize
-    ensures { result ≡ spec.box_length protected iv_size }
-{
-    boxes::HEADER + track_allowed::fields_length(protected, iv_size)
-}
-
 // Stores the box of allowed parameters, of the length that they call for, in front of the output.
 fn store(p: Parameters, size: usize, out: &mut [u8])
     requires { (spec.allowed p ≡ true) × (size ≡ spec.box_length p.protected p.iv_size) × (size ≤ length out.old) }
@@ -71,7 +63,7 @@ pub fn write(parameters: Parameters, out: &mut [u8]) -> BoxWritten
     if answer != refusal::DONE {
         return BoxWritten { answer, length: 0 };
     }
-    let length = box_length(parameters.protected, parameters.iv_size);
+    let length = track_allowed::box_length(parameters.protected, parameters.iv_size);
     if out.len() < length {
         return BoxWritten {
             answer: refusal::ROOM,
@@ -79,29 +71,6 @@ pub fn write(parameters: Parameters, out: &mut [u8]) -> BoxWritten
         };
     }
     store(parameters, length, out);
-    BoxWritten {
-        answer: refusal::DONE,
-        length,
-    }
-}
-
-// Writes the group entry of some parameters: 1, 3, 4, 17. Only the entry's bytes change, and none if refused.
-pub fn write_group(parameters: Parameters, out: &mut [u8]) -> BoxWritten
-    ensures { (result ≡ group.write_group parameters (length out.old))
-        × (out.new ≡ group.after_writing_group parameters out.old) }
-{
-    let answer = track_allowed::check_group(parameters);
-    if answer != refusal::DONE {
-        return BoxWritten { answer, length: 0 };
-    }
-    let length = track_allowed::fields_length(parameters.protected, parameters.iv_size);
-    if out.len() < length {
-        return BoxWritten {
-            answer: refusal::ROOM,
-            length: 0,
-        };
-    }
-    store_fields(parameters, out, 0);
     BoxWritten {
         answer: refusal::DONE,
         length,

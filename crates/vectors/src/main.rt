@@ -61,9 +61,9 @@ fn whole(opening: bool, code: &[u8], track_box: &[u8], auxiliary: &[u8], data: &
     let keys =
         b"\x01\x01\x01\x01\x01\x01\x01\x01\x01\x01\x01\x01\x01\x01\x01\x01\x2b\x7e\x15\x16\x28\xae\xd2\xa6\xab\xf7\x15\x88\x09\xcf\x4f\x3c";
     if opening {
-        sample::open(code, track_box, b"", auxiliary, keys, data);
+        sample::open(code, track_box, auxiliary, keys, data);
     } else {
-        sample::lock(code, track_box, b"", auxiliary, keys, data);
+        sample::lock(code, track_box, auxiliary, keys, data);
     }
 }
 

@@ -65,8 +65,8 @@ module _ (v contents : List ℕ) (term today : ℕ) where
     length_front : length (take (trailer v).offset v) ≡ (trailer v).offset
     length_front = length-take-le (trailer v).offset v (omega (arith, h.filled))
 
-    length-records : length records ≡ (trailer v).offset + length contents
-    length-records = length-append (take (trailer v).offset v) contents ∙ ap (λ (n : ℕ). n + length contents) length_front
+    length_records : length records ≡ (trailer v).offset + length contents
+    length_records = length-append (take (trailer v).offset v) contents ∙ ap (λ (n : ℕ). n + length contents) length_front
 
     length_earlier : length earlier ≡ (trailer v).count * 24
     length_earlier = length-take-le ((trailer v).count * 24) (drop (trailer v).offset v) (simp length-drop (omega (arith, h.filled)))
@@ -95,7 +95,7 @@ module _ (v contents : List ℕ) (term today : ℕ) where
           let rest = drop (n * 24) (drop (trailer v).offset v) in
           let e : front ++ (earlier ++ rest) ≡ v =
           ap (λ (l : List ℕ). front ++ l) (take-append-drop (n * 24) (drop (trailer v).offset v)) ∙ take-append-drop (trailer v).offset v in
-          let a = entries-behind records (earlier ++ (entry_bytes entry ++ trailer_bytes last)) ((trailer v).offset + length contents) 0 n length-records in
+          let a = entries-behind records (earlier ++ (entry_bytes entry ++ trailer_bytes last)) ((trailer v).offset + length contents) 0 n length_records in
           let b = entries_before earlier (entry_bytes entry ++ trailer_bytes last) 0 n (omega (arith, length_earlier)) in
           let c = entries-behind front (earlier ++ rest) (trailer v).offset 0 n length_front in
           let d = entries_before earlier rest 0 n (omega (arith, length_earlier)) in
@@ -105,7 +105,7 @@ module _ (v contents : List ℕ) (term today : ℕ) where
       unfolding entry_bytes
       entry_new =
           let l : length (records ++ earlier) ≡ (trailer v).offset + length contents + (trailer v).count * 24 =
-          length-append records earlier ∙ omega (arith, length-records, length_earlier) in
+          length-append records earlier ∙ omega (arith, length_records, length_earlier) in
           ap (λ (w : List ℕ). entry_at w ((trailer v).offset + length contents + (trailer v).count * 24)) split_entry
           ∙ entry-fields entry.offset entry.length entry.day entry.term
           (record { first = omega (arith, h.filled); second = omega arith; third = today_fits; fourth = Term-fits })

@@ -14,10 +14,10 @@ use Rattle.volume_spec.proofs.Fields.{entry_before, entry-behind}
 
 -- ---- One by one.
 
-pub entries-first : (v : List ℕ) (at n : ℕ) → 0 < n → entries v at n ≡ entry_at v at ∷ entries v (at + 24) (n - 1)
+pub entries_first : (v : List ℕ) (at n : ℕ) → 0 < n → entries v at n ≡ entry_at v at ∷ entries v (at + 24) (n - 1)
 unfolding entries
-entries-first v at zero h = absurd (omega arith)
-entries-first v at (suc n) h =
+entries_first v at zero h = absurd (omega arith)
+entries_first v at (suc n) h =
     let e : suc n - 1 ≡ n = omega arith in
     rw e
 

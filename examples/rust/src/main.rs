@@ -6,10 +6,7 @@ const LENGTH: usize = 4 << 20;
 const TRACK_BOX: &[u8] =
     b"\x00\x00\x00\x20tenc\x00\x00\x00\x00\x00\x00\x01\x08\x01\x02\x03\x04\x05\x06\x07\x08\x09\x0a\x0b\x0c\x0d\x0e\x0f\x10";
 
-/// The sample is in no group.
-const GROUP_ENTRY: &[u8] = b"";
-
-/// One key record: the KID, then the key.
+/// The KID, then the key.
 const KEY_RECORD: &[u8] =
     b"\x01\x02\x03\x04\x05\x06\x07\x08\x09\x0a\x0b\x0c\x0d\x0e\x0f\x10\x2b\x7e\x15\x16\x28\xae\xd2\xa6\xab\xf7\x15\x88\x09\xcf\x4f\x3c";
 
@@ -35,15 +32,8 @@ fn run() -> Result<(), String> {
     let recording: Vec<u8> = (0..LENGTH).map(|i| (i % 251) as u8).collect();
     let mut sample = recording.clone();
 
-    cenc::lock(
-        b"cenc",
-        TRACK_BOX,
-        GROUP_ENTRY,
-        &auxiliary,
-        KEY_RECORD,
-        &mut sample,
-    )
-    .map_err(|number| refused("lock", number))?;
+    cenc::lock(b"cenc", TRACK_BOX, &auxiliary, KEY_RECORD, &mut sample)
+        .map_err(|number| refused("lock", number))?;
     for start in [0, LENGTH / 2] {
         let (clear, end) = (start + CLEAR, start + CLEAR + 16);
         if sample[start..clear] != recording[start..clear]
@@ -57,15 +47,8 @@ fn run() -> Result<(), String> {
         hex(&sample)
     );
 
-    cenc::open(
-        b"cenc",
-        TRACK_BOX,
-        GROUP_ENTRY,
-        &auxiliary,
-        KEY_RECORD,
-        &mut sample,
-    )
-    .map_err(|number| refused("open", number))?;
+    cenc::open(b"cenc", TRACK_BOX, &auxiliary, KEY_RECORD, &mut sample)
+        .map_err(|number| refused("open", number))?;
     if sample != recording {
         return Err("opening did not give the recording back".to_string());
     }

@@ -1,106 +1,98 @@
 //! Lines `aux`, and entries and auxiliary data for other lines.
 
-use super::groups::{self, Applying};
-use super::{box_of, boxes, zero_kid, Random, PROTECTED_KINDS};
+use super::{any_parameters, box_of, boxes, parameters, zero_kid, Random, KINDS, PROTECTED_KINDS};
 use crate::hex::word;
 use crate::subsample::{Entry, LONGEST_SAMPLE};
 use crate::track::Parameters;
 
 pub fn line(random: &mut Random, n: u64) -> String {
     let round = (n / 16) as usize;
-    let applying = Applying::protected(random, round % PROTECTED_KINDS);
-    let p = applying.parameters();
+    let p = parameters(random, round % PROTECTED_KINDS);
     match n % 16 {
         0..=1 => {
             let length = random.pick(&[0, 1, 15, 16, 17, LONGEST_SAMPLE]);
-            well_formed(random, &applying, &[], length)
+            well_formed(random, &p, &[], length)
         }
-        2..=6 => {
+        2..=4 => {
             let count = random.within(1, 8);
-            let entries = big_entries(random, p, count);
-            well_formed(random, &applying, &entries, total(&entries))
+            let entries = big_entries(random, &p, count);
+            well_formed(random, &p, &entries, total(&entries))
         }
-        7 => {
+        5 => {
             let count = random.pick(&[63, 64, 65, 66]);
-            let entries = big_entries(random, p, count);
-            well_formed(random, &applying, &entries, total(&entries))
+            let entries = big_entries(random, &p, count);
+            well_formed(random, &p, &entries, total(&entries))
         }
-        8 => longest(random, &applying),
-        9 => {
+        6 => longest(random, &p),
+        7 => {
             let entries = vec![Entry::ZERO; random.pick(&[1, 2, 64, 65])];
             let length = random.pick(&[0, 0, 0, 1]);
-            well_formed(random, &applying, &entries, length)
+            well_formed(random, &p, &entries, length)
         }
-        10 => {
+        8 => {
             let cbc1 = random.within(4, 5);
-            let applying = Applying::protected(random, cbc1);
-            let mut entries = big_entries(random, applying.parameters(), 3);
+            let p = parameters(random, cbc1);
+            let mut entries = big_entries(random, &p, 3);
             entries[random.below(3)].protected ^= random.pick(&[1, 2, 4, 8]);
-            well_formed(random, &applying, &entries, total(&entries))
+            well_formed(random, &p, &entries, total(&entries))
         }
-        11 => {
-            let applying = Applying::unprotected(random);
+        9 => {
+            let kind = random.within(PROTECTED_KINDS, KINDS.len() - 1);
+            let p = parameters(random, kind);
             let length = random.pick(&[0, 1, LONGEST_SAMPLE, LONGEST_SAMPLE + 1]);
             let extra = random.pick(&[0, 0, 1, 8, 16]);
-            let aux = random.bytes(extra);
-            let (code, track_box) = (applying.track.code, box_of(&applying.track));
-            aux_line(&code, &track_box, &applying.entry_bytes(), length, &aux)
+            aux_line(&p.code, &box_of(&p), length, &random.bytes(extra))
         }
-        12..=14 => faulty(random, &applying, 1),
+        10..=14 => faulty(random, &p, 1),
         _ => {
+            let p = any_parameters(random);
             let faults = random.within(2, 3);
-            faulty(random, &applying, faults)
+            faulty(random, &p, faults)
         }
     }
 }
 
-fn aux_line(code: &[u8], track_box: &[u8], entry: &[u8], length: u64, aux: &[u8]) -> String {
+fn aux_line(code: &[u8], track_box: &[u8], length: u64, aux: &[u8]) -> String {
     format!(
-        "aux {} {} {} {length} {}",
+        "aux {} {} {length} {}",
         word(code),
         word(track_box),
-        word(entry),
         word(aux)
     )
 }
 
-fn well_formed(random: &mut Random, applying: &Applying, entries: &[Entry], length: u64) -> String {
-    let aux = auxiliary(random, applying.parameters(), entries);
-    let (code, track_box) = (applying.track.code, box_of(&applying.track));
-    aux_line(&code, &track_box, &applying.entry_bytes(), length, &aux)
+fn well_formed(random: &mut Random, p: &Parameters, entries: &[Entry], length: u64) -> String {
+    let aux = auxiliary(random, p, entries);
+    aux_line(&p.code, &box_of(p), length, &aux)
 }
 
 /// Lengths at the edge of what a sample may have, with and without entries.
-fn longest(random: &mut Random, applying: &Applying) -> String {
+fn longest(random: &mut Random, p: &Parameters) -> String {
     let length = LONGEST_SAMPLE + random.pick(&[0, 0, 0, 1, 16, u64::MAX - LONGEST_SAMPLE]);
-    let mut entries = big_entries(random, applying.parameters(), 3);
+    let mut entries = big_entries(random, p, 3);
     let rest = length.wrapping_sub(total(&entries)) as u32;
     entries.push(Entry {
         clear: (rest % 16) as u16,
         protected: rest - rest % 16,
     });
     entries.truncate(random.pick(&[0, 4, 4, 4]));
-    well_formed(random, applying, &entries, length)
+    well_formed(random, p, &entries, length)
 }
 
-/// Well-formed auxiliary data with so many faults made to it, its group entry, its box or its code.
-fn faulty(random: &mut Random, applying: &Applying, faults: usize) -> String {
-    let p = applying.parameters();
+/// Well-formed auxiliary data with so many faults made to it, its box or its code.
+fn faulty(random: &mut Random, p: &Parameters, faults: usize) -> String {
     let count = random.below(5);
     let mut entries = big_entries(random, p, count);
     let mut length = total(&entries);
     let mut code = p.code.to_vec();
-    let mut track_box = box_of(&applying.track);
-    let mut group = applying.entry_bytes();
+    let mut track_box = box_of(p);
     let mut of_bytes = 0;
     for _ in 0..faults {
-        match random.below(12) {
-            0..=1 => boxes::damage(random, &mut code, &mut track_box),
-            2 => length = random.pick(&[LONGEST_SAMPLE + 1, u64::MAX]),
-            3 => zero_kid(&mut track_box),
-            4..=5 => groups::damage_entry(random, applying, &mut group),
-            6 => groups::zero_kid(&mut group),
-            7..=8 => of_bytes += 1,
+        match random.below(9) {
+            0 => boxes::damage(random, &mut code, &mut track_box),
+            1 => length = random.pick(&[LONGEST_SAMPLE + 1, u64::MAX]),
+            2 => zero_kid(&mut track_box),
+            3..=5 => of_bytes += 1,
             _ => entry_fault(random, &mut entries, &mut length),
         }
     }
@@ -108,7 +100,7 @@ fn faulty(random: &mut Random, applying: &Applying, faults: usize) -> String {
     for _ in 0..of_bytes {
         byte_fault(random, p, &mut aux);
     }
-    aux_line(&code, &track_box, &group, length, &aux)
+    aux_line(&code, &track_box, length, &aux)
 }
 
 /// Accepted entries of all sizes.

@@ -1,20 +1,13 @@
-//! Lines `box` and `write`; every second line is one of `group` or `wgroup`.
+//! Lines `box` and `write`.
 
 use super::{
-    any_parameters, box_of, groups, mend_size, near_zero_kid, parameters, zero_kid, Random, CODES,
-    KINDS,
+    any_parameters, box_of, mend_size, near_zero_kid, parameters, zero_kid, Random, CODES, KINDS,
 };
 use crate::hex::word;
 use crate::track::Parameters;
 
-/// Outputs just too short and just long enough for a box.
-const ROOMS: [usize; 8] = [30, 31, 32, 33, 47, 48, 49, 50];
-
 pub fn line(random: &mut Random, n: u64) -> String {
-    if n % 2 == 1 {
-        return groups::line(random, n / 2);
-    }
-    let (round, turn) = ((n / 32) as usize, n / 2 % 16);
+    let (round, turn) = ((n / 16) as usize, n % 16);
     match turn {
         0..=1 => {
             let p = parameters(random, (2 * round + turn as usize) % KINDS.len());
@@ -26,7 +19,7 @@ pub fn line(random: &mut Random, n: u64) -> String {
         }
         2..=6 => one_byte_changed(random, 5 * round + turn as usize - 2),
         7 => other_length(random),
-        8 => edge_box(random),
+        8 => edge_fields(random),
         9 => several_faults(random),
         10 => other_code(random),
         11 => garbage(random),
@@ -35,13 +28,9 @@ pub fn line(random: &mut Random, n: u64) -> String {
             if random.once_in(4) {
                 p.kid = [0; 16];
             }
-            write_line(random, "write", &p, &ROOMS)
+            write_line(random, &p)
         }
-        _ => {
-            let mut p = any_parameters(random);
-            near(random, &mut p);
-            write_line(random, "write", &p, &ROOMS)
-        }
+        _ => near_write(random),
     }
 }
 
@@ -86,18 +75,10 @@ fn change_length(random: &mut Random, bytes: &mut Vec<u8>) {
 }
 
 /// A box put together from fields near their edges, of a right size.
-fn edge_box(random: &mut Random) -> String {
+fn edge_fields(random: &mut Random) -> String {
     let mut bytes = b"\0\0\0\0tenc".to_vec();
     bytes.push(random.pick(&[0, 1, 1, 1, 1, 2]));
-    bytes.extend([0, 0, 0]);
-    bytes.extend(edge_fields(random));
-    mend_size(&mut bytes);
-    box_line(&random.pick(&CODES), &bytes)
-}
-
-/// Fields near their edges: those of a group entry, with which a box ends.
-pub fn edge_fields(random: &mut Random) -> Vec<u8> {
-    let mut bytes = vec![random.pick(&[0, 0, 0, 0, 0, 0, 0, 1])];
+    bytes.extend([0, 0, 0, random.pick(&[0, 0, 0, 0, 0, 0, 0, 1])]);
     bytes.push(match random.below(3) {
         0 => 0,
         1 => random.pick(&[0x01, 0x09, 0x0f, 0x10, 0x19, 0x1f, 0xf0, 0xff]),
@@ -116,7 +97,8 @@ pub fn edge_fields(random: &mut Random) -> Vec<u8> {
         bytes.push(random.pick(&[16, 16, 16, 8, 0, 17]));
         bytes.extend(random.bytes(16));
     }
-    bytes
+    mend_size(&mut bytes);
+    box_line(&random.pick(&CODES), &bytes)
 }
 
 /// Two or three faults at once, so that the order of refusals shows.
@@ -152,7 +134,7 @@ fn other_code(random: &mut Random) -> String {
 }
 
 /// Random bytes, a known code changed or of another length, or another known code.
-pub fn random_code(random: &mut Random) -> Vec<u8> {
+fn random_code(random: &mut Random) -> Vec<u8> {
     let mut code = random.pick(&CODES).to_vec();
     match random.below(5) {
         0 => {
@@ -187,16 +169,16 @@ fn garbage(random: &mut Random) -> String {
     box_line(&code, &bytes)
 }
 
-/// A line `write` or `wgroup`, with an output out of these lengths or another.
-pub fn write_line(random: &mut Random, kind: &str, p: &Parameters, rooms: &[usize]) -> String {
+fn write_line(random: &mut Random, p: &Parameters) -> String {
     let room = match random.below(6) {
-        0..=1 => random.pick(rooms),
+        0 => random.pick(&[30, 31, 32, 33]),
+        1 => random.pick(&[47, 48, 49, 50]),
         2 => random.below(61),
         3 => random.pick(&[0, 65536]),
         _ => 60,
     };
     format!(
-        "{kind} {} {} {} {} {} {} {} {} {room}",
+        "write {} {} {} {} {} {} {} {} {room}",
         word(&p.code),
         p.version,
         p.crypt,
@@ -208,8 +190,9 @@ pub fn write_line(random: &mut Random, kind: &str, p: &Parameters, rooms: &[usiz
     )
 }
 
-/// Changes up to three fields.
-pub fn near(random: &mut Random, p: &mut Parameters) {
+/// Accepted parameters with up to three fields changed.
+fn near_write(random: &mut Random) -> String {
+    let mut p = any_parameters(random);
     for _ in 0..random.below(4) {
         match random.below(10) {
             0 => p.version = random.pick(&[0, 1, 2, 255]),
@@ -227,6 +210,7 @@ pub fn near(random: &mut Random, p: &mut Parameters) {
             }
         }
     }
+    write_line(random, &p)
 }
 
 fn small_or_any(random: &mut Random) -> u8 {

@@ -1,8 +1,7 @@
 //! Lines `lock` and `open`.
 
 use super::auxiliary::{auxiliary, byte_fault, entries, entry_fault, total};
-use super::groups::{self, Applying};
-use super::{box_of, boxes, keys, zero_kid, Random, PROTECTED_KINDS};
+use super::{any_parameters, box_of, boxes, parameters, zero_kid, Random, KINDS, PROTECTED_KINDS};
 use crate::hex::word;
 use crate::subsample::{Entry, LONGEST_SAMPLE};
 use crate::track::Parameters;
@@ -10,9 +9,9 @@ use crate::track::Parameters;
 pub fn line(random: &mut Random, n: u64) -> String {
     let call = random.pick(&["lock", "open"]);
     let inputs = match n % 16 {
-        0..=8 => well_formed(random, n),
-        9 => unprotected(random),
-        10..=14 => faulty(random, n, 1),
+        0..=9 => well_formed(random, n),
+        10 => unprotected(random),
+        11..=14 => faulty(random, n, 1),
         _ => {
             let faults = random.within(2, 3);
             faulty(random, n, faults)
@@ -26,7 +25,6 @@ pub fn line(random: &mut Random, n: u64) -> String {
 pub struct Inputs {
     pub code: Vec<u8>,
     pub track_box: Vec<u8>,
-    pub entry: Vec<u8>,
     pub aux: Vec<u8>,
     pub keys: Vec<u8>,
     pub length: u64,
@@ -35,46 +33,36 @@ pub struct Inputs {
 impl Inputs {
     pub fn text(&self) -> String {
         format!(
-            "{} {} {} {} {}",
+            "{} {} {} {}",
             word(&self.code),
             word(&self.track_box),
-            word(&self.entry),
             word(&self.aux),
             word(&self.keys)
         )
     }
+
+    /// Puts box and key record under the zero KID: 4 and not 6 if the track is protected.
+    pub fn zero_kid(&mut self) {
+        zero_kid(&mut self.track_box);
+        zero_key_kid(&mut self.keys);
+    }
 }
 
-/// Puts the key record that applies, and box, entry or both, under the zero KID: 4 and not 6 if that one is protected.
-fn under_zero_kid(random: &mut Random, applying: &Applying, inputs: &mut Inputs) {
-    let (of_box, of_entry) = random.pick(&[(true, true), (true, false), (false, true)]);
-    if of_box {
-        zero_kid(&mut inputs.track_box);
-    }
-    if of_entry {
-        groups::zero_kid(&mut inputs.entry);
-    }
-    keys::rename(applying, &mut inputs.keys, [0; 16]);
-}
-
-/// Accepted inputs for a protected sample; each kind of track has its turn.
+/// Accepted inputs for a protected track; each kind of track has its turn.
 pub fn well_formed(random: &mut Random, n: u64) -> Inputs {
-    let applying = protected(random, n);
-    let (entries, length) = map(random, applying.parameters());
-    inputs(random, &applying, &entries, length)
+    let p = parameters(random, (n / 16) as usize % PROTECTED_KINDS);
+    let (entries, length) = map(random, &p);
+    inputs(random, &p, &entries, length)
 }
 
-fn protected(random: &mut Random, n: u64) -> Applying {
-    Applying::protected(random, (n / 16) as usize % PROTECTED_KINDS)
-}
-
-/// Accepted inputs for an unprotected sample, whose key records aren't looked at.
+/// Accepted inputs for an unprotected track, whose key record isn't looked at.
 pub fn unprotected(random: &mut Random) -> Inputs {
-    let applying = Applying::unprotected(random);
+    let kind = random.within(PROTECTED_KINDS, KINDS.len() - 1);
+    let p = parameters(random, kind);
     let length = random.below(100) as u64;
-    let mut inputs = inputs(random, &applying, &[], length);
-    if !random.once_in(3) {
-        keys::damage(random, &applying, &mut inputs.keys);
+    let mut inputs = inputs(random, &p, &[], length);
+    if random.once_in(2) {
+        key_fault(random, &mut inputs.keys);
     }
     inputs
 }
@@ -82,50 +70,46 @@ pub fn unprotected(random: &mut Random) -> Inputs {
 /// Inputs for a length at the edge of what a sample may have, some under the zero KID; no line can hold such a
 /// sample itself.
 pub fn longest(random: &mut Random, n: u64) -> Inputs {
-    let applying = protected(random, n);
+    let p = parameters(random, (n / 16) as usize % PROTECTED_KINDS);
     let length = random.pick(&[LONGEST_SAMPLE, LONGEST_SAMPLE + 1, u64::MAX]);
-    let mut inputs = inputs(random, &applying, &[], length);
+    let mut inputs = inputs(random, &p, &[], length);
     if random.once_in(8) {
-        under_zero_kid(random, &applying, &mut inputs);
+        inputs.zero_kid();
     }
     inputs
 }
 
 /// Inputs with so many faults.
 pub fn faulty(random: &mut Random, n: u64, faults: usize) -> Inputs {
-    let applying = match random.below(16) {
-        0 => Applying::unprotected(random),
-        _ => protected(random, n),
+    let p = if random.once_in(8) {
+        any_parameters(random)
+    } else {
+        parameters(random, (n / 16) as usize % PROTECTED_KINDS)
     };
-    let p = applying.parameters();
-    let (mut entries, mut length) = map(random, p);
-    let (mut of_map, mut of_bytes, mut of_keys, mut of_box, mut of_entry) = (0, 0, 0, 0, 0);
-    let mut of_kid = false;
+    let (mut entries, mut length) = map(random, &p);
+    let (mut of_entries, mut of_bytes, mut of_keys, mut of_box) = (0, 0, 0, 0);
+    let mut under_zero_kid = false;
     for _ in 0..faults {
-        match random.below(13) {
-            0..=2 => of_keys += 1,
-            3..=4 => of_box += 1,
-            5..=7 => of_entry += 1,
-            8 => of_bytes += 1,
-            9 => of_kid = true,
-            _ => of_map += 1,
+        match random.below(9) {
+            0..=1 => of_keys += 1,
+            2..=3 => of_box += 1,
+            4 => of_bytes += 1,
+            5 => under_zero_kid = true,
+            _ => of_entries += 1,
         }
     }
-    for _ in 0..of_map {
+    for _ in 0..of_entries {
         entry_fault(random, &mut entries, &mut length);
     }
-    let mut inputs = inputs(random, &applying, &entries, length);
-    if of_kid {
-        under_zero_kid(random, &applying, &mut inputs);
+    let mut inputs = inputs(random, &p, &entries, length);
+    if under_zero_kid {
+        inputs.zero_kid();
     }
     for _ in 0..of_bytes {
-        byte_fault(random, p, &mut inputs.aux);
+        byte_fault(random, &p, &mut inputs.aux);
     }
     for _ in 0..of_keys {
-        keys::damage(random, &applying, &mut inputs.keys);
-    }
-    for _ in 0..of_entry {
-        groups::damage_entry(random, &applying, &mut inputs.entry);
+        key_fault(random, &mut inputs.keys);
     }
     for _ in 0..of_box {
         boxes::damage(random, &mut inputs.code, &mut inputs.track_box);
@@ -133,8 +117,7 @@ pub fn faulty(random: &mut Random, n: u64, faults: usize) -> Inputs {
     inputs
 }
 
-fn inputs(random: &mut Random, applying: &Applying, entries: &[Entry], length: u64) -> Inputs {
-    let p = applying.parameters();
+fn inputs(random: &mut Random, p: &Parameters, entries: &[Entry], length: u64) -> Inputs {
     let mut aux = auxiliary(random, p, entries);
     if p.iv_size == 16 && random.once_in(2) {
         let near_top = u64::MAX - random.below(6) as u64;
@@ -142,10 +125,9 @@ fn inputs(random: &mut Random, applying: &Applying, entries: &[Entry], length: u
     }
     Inputs {
         code: p.code.to_vec(),
-        track_box: box_of(&applying.track),
-        entry: applying.entry_bytes(),
+        track_box: box_of(p),
         aux,
-        keys: keys::records(random, applying),
+        keys: [p.kid, random.array()].concat(),
         length,
     }
 }
@@ -170,4 +152,22 @@ pub fn map(random: &mut Random, p: &Parameters) -> (Vec<Entry>, u64) {
     };
     let length = total(&entries);
     (entries, length)
+}
+
+/// A key record of another length, or for another KID, the zero KID too.
+fn key_fault(random: &mut Random, keys: &mut Vec<u8>) {
+    match random.below(4) {
+        0 => keys.resize(random.pick(&[0, 16, 31, 33, 64]), 0),
+        1 => keys.truncate(keys.len().saturating_sub(1)),
+        2 => zero_key_kid(keys),
+        _ if keys.len() < 16 => keys.clear(),
+        _ => keys[random.below(16)] ^= 1 << random.below(8),
+    }
+}
+
+/// Puts a key record, whole or cut short, under the zero KID.
+fn zero_key_kid(keys: &mut [u8]) {
+    if let Some(kid) = keys.get_mut(..16) {
+        kid.fill(0);
+    }
 }

@@ -23,15 +23,18 @@ pub fn line(random: &mut Random, n: u64) -> String {
             let inputs = samples::well_formed(random, n);
             stream_line(random, &inputs, single_bytes)
         }
-        4..=5 => {
-            let inputs = samples::well_formed(random, n);
+        4..=7 => {
+            let mut inputs = samples::well_formed(random, n);
+            if random.once_in(8) {
+                inputs.zero_kid();
+            }
             stream_line(random, &inputs, mixed)
         }
-        6 => {
+        8 => {
             let inputs = samples::unprotected(random);
             stream_line(random, &inputs, mixed)
         }
-        7..=9 => {
+        9 => {
             let faults = random.within(1, 2);
             let inputs = samples::faulty(random, n, faults);
             stream_line(random, &inputs, mixed)
@@ -59,7 +62,6 @@ fn stream_line(
         direction,
         &inputs.code,
         &inputs.track_box,
-        &inputs.entry,
         &inputs.aux,
         &inputs.keys,
         inputs.length,

@@ -17,16 +17,15 @@ enum Call {
     End,
 }
 
-/// `DIRECTION CODE BOX ENTRY AUX KEYS LENGTH CALL..`
+/// `DIRECTION CODE BOX AUX KEYS LENGTH CALL..`
 pub fn stream(words: &[&[u8]]) -> Option<String> {
-    let [way, code, track_box, entry, aux, keys, length, calls @ ..] = words else {
+    let [way, code, track_box, aux, keys, length, calls @ ..] = words else {
         return None;
     };
     let (number, record) = stream::start(
         direction(way)?,
         &any(code)?,
         &any(track_box)?,
-        &any(entry)?,
         &any(aux)?,
         &any(keys)?,
         number(length, u64::MAX)?,

@@ -8,8 +8,8 @@ use second::{cases, hex, sample};
 /// Bytes on each side of a sample that no call may change.
 const MARGIN: usize = 16;
 
-type Ours = fn(&[u8], &[u8], &[u8], &[u8], &[u8], &mut [u8]) -> Result<(), u8>;
-type Second = fn(&[u8], &[u8], &[u8], &[u8], &[u8], &mut [u8]) -> u8;
+type Ours = fn(&[u8], &[u8], &[u8], &[u8], &mut [u8]) -> Result<(), u8>;
+type Second = fn(&[u8], &[u8], &[u8], &[u8], &mut [u8]) -> u8;
 
 /// Locking or opening, what undoes it, and the same by the second program.
 struct Calls(Ours, Ours, Second);
@@ -20,7 +20,6 @@ const OPEN: Calls = Calls(cenc::open, cenc::lock, sample::open);
 struct Inputs {
     code: Vec<u8>,
     track_box: Vec<u8>,
-    group_entry: Vec<u8>,
     aux: Vec<u8>,
     keys: Vec<u8>,
 }
@@ -51,20 +50,17 @@ fn compare(calls: &Calls, inputs: &Inputs, contents: &[u8]) -> Result<u8, String
     let Inputs {
         code,
         track_box,
-        group_entry,
         aux,
         keys,
     } = inputs;
     let framed = [&[0xa5; MARGIN], contents, &[0xa5; MARGIN]].concat();
     let mut buffer = framed.clone();
     let end = MARGIN + contents.len();
-    let sample = &mut buffer[MARGIN..end];
-    let number = ours(code, track_box, group_entry, aux, keys, sample)
+    let number = ours(code, track_box, aux, keys, &mut buffer[MARGIN..end])
         .err()
         .unwrap_or(0);
     let mut expected = framed.clone();
-    let sample = &mut expected[MARGIN..end];
-    let expected_number = second(code, track_box, group_entry, aux, keys, sample);
+    let expected_number = second(code, track_box, aux, keys, &mut expected[MARGIN..end]);
     if number != expected_number {
         return Err(format!(
             "answered {number}, and the second program {expected_number}"
@@ -74,8 +70,7 @@ fn compare(calls: &Calls, inputs: &Inputs, contents: &[u8]) -> Result<u8, String
         return Err(format!("answered {number}, but the bytes differ"));
     }
     if number == 0 {
-        let sample = &mut buffer[MARGIN..end];
-        undo(code, track_box, group_entry, aux, keys, sample)
+        undo(code, track_box, aux, keys, &mut buffer[MARGIN..end])
             .map_err(|number| format!("undoing it was refused ({number})"))?;
     }
     if buffer != framed {
@@ -97,10 +92,7 @@ fn generated(seed: u64, count: u64) -> Result<String, String> {
         given[usize::from(compare(&calls, &inputs, &contents).map_err(told)?)] += 1;
     }
     // No line holds a sample of more than 16 MiB, so 7 is not among them.
-    let mut due = (0..=12)
-        .chain([refusal::GROUP_ENTRY.into()])
-        .filter(|&number| number != usize::from(refusal::LENGTH));
-    if let Some(missing) = due.find(|&number| given[number] == 0) {
+    if let Some(missing) = (0..=12).find(|&number| number != 7 && given[number] == 0) {
         return Err(format!("no case was answered {missing}"));
     }
     let total: u64 = given.iter().sum();
@@ -113,7 +105,7 @@ fn generated(seed: u64, count: u64) -> Result<String, String> {
     ))
 }
 
-/// `lock CODE BOX ENTRY AUX KEYS SAMPLE`, or `open ..`.
+/// `lock CODE BOX AUX KEYS SAMPLE`, or `open ..`.
 fn read(line: &[u8]) -> Option<(Calls, Inputs, Vec<u8>)> {
     let mut words = line.split(|&c| c == b' ');
     let calls = match words.next()? {
@@ -128,15 +120,14 @@ fn read(line: &[u8]) -> Option<(Calls, Inputs, Vec<u8>)> {
     let inputs = Inputs {
         code: bytes()?,
         track_box: bytes()?,
-        group_entry: bytes()?,
         aux: bytes()?,
         keys: bytes()?,
     };
     Some((calls, inputs, bytes()?))
 }
 
-/// Every scheme at the greatest length, without entries and with as many as there may be, and with a byte more; locked under the box
-/// and opened under a group entry. Then the limits of entries and key records on short samples.
+/// Every scheme at the greatest length, without entries and with as many as there may be, and with a byte more; then as many key
+/// records as there may be, and an entry or a key record more.
 fn longest() -> Result<String, String> {
     let contents: Vec<u8> = (0..=MAX_SAMPLE_LENGTH)
         .map(|i| (i * 7 % 251) as u8)
@@ -153,86 +144,44 @@ fn longest() -> Result<String, String> {
         (b"cbcs", 0, 0, 0),
     ] {
         for entries in [0, MAX_ENTRIES] {
-            for (calls, grouped) in [(LOCK, false), (OPEN, true)] {
+            for calls in [LOCK, OPEN] {
                 for (length, due) in [
                     (MAX_SAMPLE_LENGTH, 0),
                     (MAX_SAMPLE_LENGTH + 1, refusal::LENGTH),
                 ] {
                     let name = String::from_utf8_lossy(code);
-                    let name =
-                        format!("{name}, IV size {iv_size}, {entries} entries, {length} bytes");
-                    let mut inputs = inputs(code, crypt, skip, iv_size, entries);
-                    if grouped {
-                        group(&mut inputs);
+                    let told = |what| {
+                        format!(
+                            "{name}, IV size {iv_size}, {entries} entries, {length} bytes: {what}"
+                        )
+                    };
+                    let inputs = inputs(code, crypt, skip, iv_size, entries);
+                    let number = compare(&calls, &inputs, &contents[..length]).map_err(told)?;
+                    if number != due {
+                        return Err(told(format!("answered {number} and not {due}")));
                     }
-                    answered(&name, &calls, &inputs, &contents[..length], due)?;
                     done += 1;
                 }
             }
         }
     }
-    let short = &contents[..64];
-    let inputs = inputs(b"cenc", 0, 0, 8, MAX_ENTRIES + 1);
-    answered("an entry too many", &LOCK, &inputs, short, refusal::ENTRIES)?;
-    done += 1;
-    for (others, doubled, due) in [
-        (MAX_KEY_RECORDS - 1, false, 0),
-        (MAX_KEY_RECORDS - 1, true, refusal::KEY_RECORDS),
-        (MAX_KEY_RECORDS, false, refusal::KEY_RECORDS),
+    for (entries, records, due) in [
+        (0, MAX_KEY_RECORDS, 0),
+        (0, MAX_KEY_RECORDS + 1, refusal::KEY_RECORD),
+        (MAX_ENTRIES + 1, 1, refusal::ENTRIES),
     ] {
-        for grouped in [false, true] {
-            let name = format!("behind {others} key records, doubled {doubled}, grouped {grouped}");
-            let inputs = behind(others, doubled, grouped);
-            answered(&name, &LOCK, &inputs, short, due)?;
-            done += 1;
+        let told = |what| format!("cenc, {entries} entries, {records} key records: {what}");
+        let mut inputs = inputs(b"cenc", 0, 0, 8, entries);
+        for record in 1..records {
+            inputs.keys.extend([0xe0 + record as u8; KEY_RECORD_LENGTH]);
         }
+        let number = compare(&LOCK, &inputs, &contents[..64]).map_err(told)?;
+        if number != due {
+            return Err(told(format!("answered {number} and not {due}")));
+        }
+        done += 1;
     }
     Ok(format!("{done} calls at the limits and past them alike"))
-}
-
-/// Both sides answer the number that is due.
-fn answered(
-    name: &str,
-    calls: &Calls,
-    inputs: &Inputs,
-    contents: &[u8],
-    due: u8,
-) -> Result<(), String> {
-    match compare(calls, inputs, contents) {
-        Ok(number) if number == due => Ok(()),
-        Ok(number) => Err(format!("{name}: answered {number} and not {due}")),
-        Err(what) => Err(format!("{name}: {what}")),
-    }
-}
-
-/// Puts the box's parameters into a group entry, which a box ends with, and leaves the track unprotected.
-fn group(inputs: &mut Inputs) {
-    inputs.group_entry = inputs.track_box[12..].to_vec();
-    let unprotected = Parameters {
-        code: inputs.code[..].try_into().expect("a code of four bytes"),
-        ..Parameters::REFUSED
-    };
-    inputs.track_box = track::bytes(&unprotected).expect("accepted parameters");
-}
-
-/// Inputs whose key record comes behind so many others, with keys of their own and KIDs that differ from its KID and each other's in
-/// the last byte; or the first has its KID.
-fn behind(others: usize, doubled: bool, grouped: bool) -> Inputs {
-    let mut inputs = inputs(b"cenc", 0, 0, 8, 0);
-    if grouped {
-        group(&mut inputs);
-    }
-    let applying = std::mem::take(&mut inputs.keys);
-    for record in 0..others {
-        let mut other = applying.clone();
-        other[16..].fill(0x80 + record as u8);
-        if record > 0 || !doubled {
-            other[15] = 0x80 + record as u8;
-        }
-        inputs.keys.extend(other);
-    }
-    inputs.keys.extend(applying);
-    inputs
 }
 
 /// Inputs for the greatest length, with so many equal entries.
@@ -261,7 +210,6 @@ fn inputs(code: &[u8; 4], crypt: u8, skip: u8, iv_size: u8, entries: usize) -> I
     Inputs {
         code: code.to_vec(),
         track_box: track::bytes(&parameters).expect("accepted parameters"),
-        group_entry: Vec::new(),
         aux,
         keys: [&kid[..], &[3; KEY_RECORD_LENGTH - 16]].concat(),
     }

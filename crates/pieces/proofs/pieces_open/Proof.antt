@@ -13,11 +13,11 @@ use Rattle.pieces.proofs.pieces_open.Statement.{statement}
 use Rattle.pieces.proofs.pieces_open.Tie as tie
 
 abbrev invariant-loop : tie.invariant-loop
-invariant-loop scheme track-box group-entry auxiliary key-records in_place size «data» out₀ most stream₀ at₀ done₀ out stream at done =
-    Progress (record { inputs = inputs scheme track-box group-entry auxiliary key-records; contents = «data»; output = out₀ }) out stream at done
+invariant-loop scheme track-box auxiliary key-record in_place size «data» out₀ most stream₀ at₀ done₀ out stream at done =
+    Progress (record { inputs = inputs scheme track-box auxiliary key-record; contents = «data»; output = out₀ }) out stream at done
 
 abbrev decreases-loop : tie.decreases-loop
-decreases-loop scheme track-box group-entry auxiliary key-records in_place size «data» out₀ most stream₀ at₀ done₀ out stream at done = length «data» - at
+decreases-loop scheme track-box auxiliary key-record in_place size «data» out₀ most stream₀ at₀ done₀ out stream at done = length «data» - at
 
 abbrev fed : tie.After-struct-known2 invariant-loop decreases-loop → tie.After-feed invariant-loop decreases-loop
 fed c = c.before.before.before.before
@@ -28,22 +28,21 @@ cut c = c.before.before.before
 abbrev begun : tie.After-stream invariant-loop decreases-loop → tie.After-start invariant-loop decreases-loop
 begun c = c.before.before.before.before.before
 
-abbrev lent : tie.After-start invariant-loop decreases-loop → tie.After-shared-slice-known4 invariant-loop decreases-loop
+abbrev lent : tie.After-start invariant-loop decreases-loop → tie.After-shared-slice-known3 invariant-loop decreases-loop
 lent c = c.before.before.before.before
 
-abbrev start : tie.After-shared-slice-known4 invariant-loop decreases-loop → tie.Start invariant-loop decreases-loop
-start c = c.before.before.before.before
+abbrev start : tie.After-shared-slice-known3 invariant-loop decreases-loop → tie.Start invariant-loop decreases-loop
+start c = c.before.before.before
 
 -- what was handed in
 abbrev given : tie.Start invariant-loop decreases-loop → Inputs
-given s = inputs s.args.scheme.now s.args.«track-box».now s.args.«group-entry».now s.args.auxiliary.now s.args.«key-records».now
+given s = inputs s.args.scheme.now s.args.«track-box».now s.args.auxiliary.now s.args.«key-record».now
 
-of_bytes : (c : tie.After-shared-slice-known4 invariant-loop decreases-loop) → OfBytes (given (start c))
+of_bytes : (c : tie.After-shared-slice-known3 invariant-loop decreases-loop) → OfBytes (given (start c))
 of_bytes c =
     record {
-      box = λ k. omega (arith, c.before.before.shared-slice-known2.given k);
-      group = λ k. omega (arith, c.before.shared-slice-known3.given k);
-      auxiliary = λ k. omega (arith, c.shared-slice-known4.given k);
+      box = λ k. omega (arith, c.before.shared-slice-known2.given k);
+      auxiliary = λ k. omega (arith, c.shared-slice-known3.given k);
     }
 
 -- a piece ends within the sample

@@ -1,4 +1,4 @@
--- the places: the inputs read, and the auxiliary data, the entry, the box and all else lent
+-- the places: the inputs read, and the auxiliary data, the box and all else lent
 use mathlib.Core.Path.{sym, ◌∙◌}
 use Rattle.sample_spec.specs.Sample.{Inputs, inputs, OfBytes}
 use Rattle.sample_spec.proofs.Accepted.{inputs-answer, after-refused, after_done}
@@ -7,22 +7,21 @@ use native.Mathlib.Omega.{arith}
 use Rattle.sample.proofs.process.Statement.{statement}
 use Rattle.sample.proofs.process.Tie as tie
 
-abbrev lent : tie.After-read-inputs → tie.After-shared-slice-known4
+abbrev lent : tie.After-read-inputs → tie.After-shared-slice-known3
 lent c = c.before.before.before
 
-abbrev start : tie.After-shared-slice-known4 → tie.Start
-start c = c.before.before.before.before
+abbrev start : tie.After-shared-slice-known3 → tie.Start
+start c = c.before.before.before
 
 -- what was handed in
 abbrev given : tie.Start → Inputs
-given s = inputs s.args.code.now s.args.«track-box».now s.args.«group-entry».now s.args.auxiliary.now s.args.«key-records».now
+given s = inputs s.args.code.now s.args.«track-box».now s.args.auxiliary.now s.args.«key-record».now
 
-of_bytes : (c : tie.After-shared-slice-known4) → OfBytes (given (start c))
+of_bytes : (c : tie.After-shared-slice-known3) → OfBytes (given (start c))
 of_bytes c =
     record {
-      box = λ k. omega (arith, c.before.before.shared-slice-known2.given k);
-      group = λ k. omega (arith, c.before.shared-slice-known3.given k);
-      auxiliary = λ k. omega (arith, c.shared-slice-known4.given k);
+      box = λ k. omega (arith, c.before.shared-slice-known2.given k);
+      auxiliary = λ k. omega (arith, c.shared-slice-known3.given k);
     }
 
 returns : tie.Need-returns

@@ -9,11 +9,11 @@ abbrev accepted : tie.After-begun → tie.Else1
 accepted c = c.before.before.before.before.before
 
 abbrev start : tie.After-read-inputs → tie.Start
-start c = c.before.before.before.before.before.before
+start c = c.before.before.before.before.before
 
 -- what was handed in
 abbrev given : tie.Start → Inputs
-given s = inputs s.args.code.now s.args.«track-box».now s.args.«group-entry».now s.args.auxiliary.now s.args.«key-records».now
+given s = inputs s.args.code.now s.args.«track-box».now s.args.auxiliary.now s.args.«key-record».now
 
 returns : tie.Need-returns
 returns c =

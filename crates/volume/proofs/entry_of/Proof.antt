@@ -13,7 +13,7 @@ add-read-entry : tie.Need-overflow-add-read-entry
 add-read-entry c = omega (arith, (valid_has _ c.before.before.requires.0).filled, ap (λ t. t.offset) c.read-trailer.ensures)
 
 returns : tie.Need-returns
-returns c = rw (← c.before.read-trailer.ensures) c.read_entry.ensures
+returns c = rw (← c.before.read-trailer.ensures) c.read-entry.ensures
 
 pub entry-of-spec : {M : Type 1} → statement M
 entry-of-spec =

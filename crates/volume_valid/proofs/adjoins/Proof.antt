@@ -3,7 +3,7 @@ use mathlib.Core.Path.{◌≡◌, refl, sym, ◌∙◌}
 use Prim.Native.Nat.{◌≤◌, ◌+◌, ◌-◌, ◌*◌}
 use lib.ListN.{length}
 use Rattle.volume_spec.specs.Volume.{entries, adjoining}
-use Rattle.volume_spec.proofs.Entries.{entries-first, adjoining_elsewhere, adjoining_past, adjoining-next}
+use Rattle.volume_spec.proofs.Entries.{entries_first, adjoining_elsewhere, adjoining_past, adjoining-next}
 use borrow.Author.Rules.{rules}
 use native.Mathlib.Omega.{arith}
 use Rattle.volume_valid.proofs.adjoins.Statement.{statement}
@@ -23,8 +23,8 @@ decreases-loop volume offset count end₀ at₀ left₀ end at left = left
 first : (c : tie.After-read-entry invariant-loop decreases-loop)
     → (let v = c.before.before.before.before.args.volume.now in
     let l = c.before.before.loop in
-    entries v l.at l.left ≡ c.read_entry.result ∷ entries v (l.at + 24) (l.left - 1))
-first c = entries-first _ _ _ c.before.loop-test.true ∙ rw c.read_entry.ensures
+    entries v l.at l.left ≡ c.read-entry.result ∷ entries v (l.at + 24) (l.left - 1))
+first c = entries_first _ _ _ c.before.loop-test.true ∙ rw c.read-entry.ensures
 
 loop-holds : tie.Need-loop-init invariant-loop decreases-loop
 loop-holds c = (omega arith, omega arith, refl)

@@ -2,7 +2,7 @@ use mathlib.Core.Path.{◌≡◌, sym, ◌∙◌}
 use Prim.Native.Nat.{◌≤◌, ◌+◌, ◌*◌, max}
 use lib.ListN.{length}
 use Rattle.volume_spec.specs.Volume.{entries, largest_day}
-use Rattle.volume_spec.proofs.Entries.{entries-first}
+use Rattle.volume_spec.proofs.Entries.{entries_first}
 use borrow.Author.Rules.{rules}
 use native.Mathlib.Omega.{arith}
 use Rattle.volume_valid.proofs.largest_day.Statement.{statement}
@@ -24,8 +24,8 @@ unfolding largest_day
 loop-again c =
     let v = c.before.before.before.before.before.args.volume.now in
     let l = c.before.before.before.loop in
-    let first = entries-first v l.at l.left c.before.before.loop-test.true in
-    (omega arith, l.invariant.1 ∙ rw (first, ← c.before.read_entry.ensures, c.later.ensures) (omega arith))
+    let first = entries_first v l.at l.left c.before.before.loop-test.true in
+    (omega arith, l.invariant.1 ∙ rw (first, ← c.before.read-entry.ensures, c.later.ensures) (omega arith))
 
 returns : tie.Need-returns invariant-loop decreases-loop
 unfolding largest_day entries

@@ -1,6 +1,6 @@
 use borrow.Author.Rules.{rules}
-use Rattle.keys.proofs.no_key.Statement.{statement}
-use Rattle.keys.proofs.no_key.Tie as tie
+use Rattle.sample.proofs.no_key.Statement.{statement}
+use Rattle.sample.proofs.no_key.Tie as tie
 
 returns : tie.Need-returns
 returns c = rw c.new.ensures
