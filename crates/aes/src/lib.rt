@@ -1,4 +1,6 @@
 // AES-128 (FIPS 197): a block of 16 bytes enciphered and deciphered under the round keys of a key of 16 bytes.
+#![tactic(auto)]
+
 mod inv_sbox;
 mod sbox;
 

@@ -1,4 +1,6 @@
 // The frame of a box (ISO/IEC 14496-12, 4.2): its size and type, and a full box's version and flags.
+#![tactic(auto)]
+
 ghost use Rattle.std.specs.Prelude.{◌≡◌};
 ghost use Rattle.boxes.specs.Box as spec;
 

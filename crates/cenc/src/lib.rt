@@ -1,4 +1,6 @@
 // The C interface: whole samples locked and opened over plain byte ranges, one number back.
+#![tactic(auto)]
+
 ghost use Rattle.std.specs.Prelude.{◌≡◌, length};
 ghost use Rattle.octets.specs.Answers.{answer};
 ghost use Rattle.modes_spec.specs.declared.Direction.TheVariants.{Lock, Open};

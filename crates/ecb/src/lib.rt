@@ -1,4 +1,6 @@
 // The electronic codebook mode (SP 800-38A, section 6.1) over a byte string in place: for published vectors and measurements.
+#![tactic(auto)]
+
 ghost use Rattle.std.specs.Prelude.{◌≡◌, true, false, length};
 ghost use Rattle.octets.specs.Bytes.{filled};
 ghost use Rattle.aes.specs.Block.{round_keys};

@@ -6,6 +6,8 @@
 // system's reason for a failure. After `done N` the N bytes of OUT have reached its device; after any other line OUT is as
 // it was before. IN is `-` for standard input, whose length is then declared by LENGTH, and OUT is `-` for standard output; the line is
 // then on standard error, and what was written before a failure has gone out.
+#![tactic(auto)]
+
 mod arguments;
 mod feeding;
 mod files;

@@ -1,4 +1,6 @@
 // A stream whose record is changed where it lies: thin forms over a record that is lent.
+#![tactic(auto)]
+
 ghost use Rattle.std.specs.Prelude.{◌≡◌, length};
 ghost use Rattle.stream_spec.specs.Stream as spec;
 

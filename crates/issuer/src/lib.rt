@@ -1,4 +1,6 @@
 // Start vectors without a clock (document 02, Ask 3): starting an issuer, and its grants.
+#![tactic(auto)]
+
 ghost use Rattle.std.specs.Prelude.{◌++◌, ◌≡◌};
 ghost use Rattle.octets.specs.Bytes.{filled};
 ghost use Rattle.track_spec.specs.Track.{zeros};

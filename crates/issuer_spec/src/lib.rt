@@ -1,4 +1,6 @@
 // An issuer of start vectors without a clock (document 02, Ask 3): its structures.
+#![tactic(auto)]
+
 pub mod refusal;
 
 ghost use Rattle.std.specs.Prelude.{◌≡◌};

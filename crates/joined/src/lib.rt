@@ -1,4 +1,6 @@
 // Two byte strings taken as one: copied to the front of an output, and 16 bytes of them from a place on.
+#![tactic(auto)]
+
 ghost use Rattle.std.specs.Prelude.{◌++◌, ◌≡◌, get_or, drop};
 ghost use Rattle.octets.specs.Bytes.{filled};
 ghost use Rattle.joined.specs.Joined.{joined_into};

@@ -1,5 +1,7 @@
 // The layout of a sample (document 01, "Which bytes are ciphered, and how" and "Pieces"): whether a byte of a range is ciphered, where
 // a position lies, how far its key stream block is used there, and how many bytes are held there.
+#![tactic(auto)]
+
 ghost use Rattle.std.specs.Prelude.{◌&&◌, [], ◌∷◌, ◌≡◌, ◌%◌, ◌≤◌, take};
 ghost use Rattle.scheme.specs.Layout.{in_whole_block, in_crypt_run, is_ciphered, entry, entries, total, mask, count as counted};
 ghost use Rattle.scheme.specs.Held.{held_at};

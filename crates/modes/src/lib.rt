@@ -1,4 +1,6 @@
 // The counter mode and cipher block chaining over a part of a byte string in place (SP 800-38A, 6.5 and 6.2).
+#![tactic(auto)]
+
 ghost use Rattle.std.specs.Prelude.{◌≡◌, ◌+◌, ◌/◌, ◌≤◌, length, drop};
 ghost use Rattle.aes.specs.Block as block;
 ghost use Rattle.modes_spec.specs.Modes as spec;

@@ -1,4 +1,6 @@
 // The modes of operation of SP 800-38A: their definitions and laws, the direction in which one runs, and the block that it keeps.
+#![tactic(auto)]
+
 ghost use Rattle.std.specs.Prelude.{◌≡◌};
 
 // Plain text to cipher text, or back.

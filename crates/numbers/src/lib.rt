@@ -1,4 +1,6 @@
 // Big-endian numbers in byte strings: read and written at a place.
+#![tactic(auto)]
+
 ghost use Rattle.std.specs.Prelude.{◌≡◌, ◌≤◌};
 ghost use Rattle.octets.specs.Bytes.{number as number_at, digits, placed};
 

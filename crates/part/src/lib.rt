@@ -1,4 +1,6 @@
 // The transform of a part of a sample at an offset, under parameters and a map.
+#![tactic(auto)]
+
 mod runs;
 mod walk;
 

@@ -1,4 +1,6 @@
 // A sample opened in pieces of one size, from C: for measurements.
+#![tactic(auto)]
+
 ghost use Rattle.std.specs.Prelude.{◌≡◌, max, length};
 ghost use Rattle.sample_spec.specs.Sample.{inputs};
 ghost use Rattle.stream_spec.specs.Stream as streams;

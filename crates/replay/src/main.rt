@@ -1,5 +1,7 @@
 // Calls of the library, one a line on standard input, each answered by a line on standard output. Standard error has what failed,
 // and at the end how many lines were malformed, if any were.
+#![tactic(auto)]
+
 mod boxes;
 mod calls;
 mod issuers;

@@ -1,4 +1,6 @@
 // A whole sample, locked and opened in place (document 01, "Which bytes are ciphered, and how").
+#![tactic(auto)]
+
 ghost use Rattle.std.specs.Prelude.{◌≡◌, length};
 ghost use Rattle.octets.specs.Answers.{answer};
 ghost use Rattle.aes.specs.Block.{round_keys, encipher, decipher};

@@ -1,5 +1,7 @@
 // What a caller hands in for a sample, and a whole sample locked and opened: definitions and theorems (document 01, "Which bytes are
 // ciphered, and how").
+#![tactic(auto)]
+
 pub mod refusal;
 
 use aes::Key;

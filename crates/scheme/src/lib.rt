@@ -1,5 +1,7 @@
 // The four schemes: which bytes of a sample each ciphers, and how (document 01, "Which bytes are ciphered, and how"); definitions
 // and theorems.
+#![tactic(auto)]
+
 ghost use Rattle.std.specs.Prelude.{◌≡◌};
 ghost use Rattle.scheme.specs.Layout as spec;
 ghost use Rattle.scheme.specs.Machine.{mode_of};

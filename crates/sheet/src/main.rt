@@ -1,4 +1,6 @@
 // A scheme code and then a box on standard input, told in lines (document 01, "The sheet program").
+#![tactic(auto)]
+
 ghost use Rattle.std.specs.Prelude.{◌≡◌, ◌++◌, ◌+◌, ◌≤◌, length, drop};
 ghost use Rattle.text.specs.Text.{decimal};
 ghost use Rattle.sheet.specs.Sheet as spec;

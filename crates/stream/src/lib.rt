@@ -1,4 +1,6 @@
 // A sample in pieces (document 01, "Pieces").
+#![tactic(auto)]
+
 ghost use Rattle.std.specs.Prelude.{true, ◌||◌, ◌++◌, ◌≡◌, ◌+◌, ◌≤◌, eqb, length, drop};
 ghost use Rattle.octets.specs.Bytes.{filled};
 ghost use Rattle.joined.specs.Joined.{joined_into};

@@ -1,5 +1,7 @@
 // A sample in pieces: the record of a stream, and what start, feeding and end answer; definitions and theorems (document 01,
 // "Pieces").
+#![tactic(auto)]
+
 pub mod refusal;
 
 ghost use Rattle.std.specs.Prelude.{◌≡◌};

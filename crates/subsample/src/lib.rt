@@ -1,4 +1,6 @@
 // A sample's auxiliary data, read: the IV and the subsample map (document 01, "A sample's auxiliary data").
+#![tactic(auto)]
+
 ghost use Rattle.std.specs.Prelude.{◌≡◌, ◌+◌, ◌*◌, ◌≤◌, length};
 ghost use Rattle.octets.specs.Bytes.{list_of, number, filled};
 ghost use Rattle.track_spec.specs.Track.{zeros};

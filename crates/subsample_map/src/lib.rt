@@ -1,4 +1,6 @@
 // The map of a sample's entries, checked (document 01, "A sample's auxiliary data"): 9 to 12.
+#![tactic(auto)]
+
 ghost use Rattle.std.specs.Prelude.{not, ◌&&◌, ◌≡◌, ◌≤◌, ◌<◌, eqb, ltb};
 ghost use Rattle.octets.specs.Answers.{answer};
 ghost use Rattle.octets.specs.Bytes.{same};

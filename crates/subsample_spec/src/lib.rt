@@ -1,5 +1,7 @@
 // A sample's auxiliary data: the map of its subsample entries, and the numbers that reading answers; definitions and theorems
 // (document 01, "A sample's auxiliary data").
+#![tactic(auto)]
+
 pub mod refusal;
 
 ghost use Rattle.std.specs.Prelude.{◌≡◌};

@@ -1,4 +1,6 @@
 // Numbers and byte strings as text: decimal and hexadecimal digits, and the words of a line.
+#![tactic(auto)]
+
 ghost use Rattle.std.specs.Prelude.{true, ◌≡◌, ◌+◌, ◌*◌, ◌/◌, ◌≤◌, min, length, drop};
 ghost use Rattle.octets.specs.Bytes.{placed};
 ghost use Rattle.text.specs.Text as spec;

@@ -1,4 +1,6 @@
 // The track encryption box `tenc`, read (document 01, "The track box"); and all else that a caller needs of a track.
+#![tactic(auto)]
+
 ghost use Rattle.std.specs.Prelude.{true, cond, ◌≡◌, ◌≤◌, drop};
 ghost use Rattle.octets.specs.Bytes.{filled};
 ghost use Rattle.track_spec.specs.Track as spec;

@@ -1,4 +1,6 @@
 // What a track may have (document 01, "The track box"; document 02, Asks 2 and 8): the scheme codes, and which parameters are allowed.
+#![tactic(auto)]
+
 ghost use Rattle.std.specs.Prelude.{◌&&◌, ◌≡◌};
 ghost use Rattle.octets.specs.Answers.{answer};
 ghost use Rattle.track_spec.specs.Track as spec;

@@ -1,5 +1,7 @@
 // The track encryption box `tenc`: what it holds, and the numbers that reading and writing answer; definitions and theorems
 // (document 01, "The track box").
+#![tactic(auto)]
+
 pub mod refusal;
 
 ghost use Rattle.std.specs.Prelude.{◌≡◌};

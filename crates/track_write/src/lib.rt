@@ -1,4 +1,6 @@
 // The track encryption box `tenc`, written (document 01, "The track box").
+#![tactic(auto)]
+
 ghost use Rattle.std.specs.Prelude.{true, ◌∷◌, ◌++◌, ◌≡◌, ◌+◌, ◌≤◌, length, drop};
 ghost use Rattle.octets.specs.Bytes.{placed};
 ghost use Rattle.track_spec.specs.Track as spec;

@@ -1,4 +1,6 @@
 // The published vectors of FIPS 197 and SP 800-38A, and chained blocks under changing keys, a line each.
+#![tactic(auto)]
+
 use aes::{Block, Key, RoundKeys};
 use libc::STDOUT_FILENO;
 

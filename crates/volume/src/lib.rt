@@ -1,4 +1,6 @@
 // The calls on a vault volume (document 02, Ask 13): records handed out and disposed of; the other calls are passed on.
+#![tactic(auto)]
+
 ghost use Rattle.std.specs.Prelude.{true, ◌≡◌, ◌+◌, ◌<◌};
 ghost use Rattle.volume_spec.specs.Volume as spec;
 

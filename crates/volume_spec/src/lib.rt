@@ -1,4 +1,6 @@
 // The vault volume (document 02, Ask 13), records one after another, then an index, then a trailer: its structures.
+#![tactic(auto)]
+
 pub mod refusal;
 
 // An entry of the index: where a record lies, the day that it was stored and the days of its term.

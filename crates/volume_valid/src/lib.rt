@@ -1,4 +1,6 @@
 // Reading a vault volume's index entries and trailer, and checking it (document 02, Ask 13).
+#![tactic(auto)]
+
 ghost use Rattle.std.specs.Prelude.{◌≡◌, ◌+◌, ◌*◌, ◌≤◌, max, length};
 ghost use Rattle.volume_spec.specs.Volume as spec;
 

@@ -1,4 +1,6 @@
 // Writing a vault volume into a byte string that the caller lends (document 02, Ask 13): the empty one, and one record more.
+#![tactic(auto)]
+
 ghost use Rattle.std.specs.Prelude.{true, ◌≡◌, ◌+◌, ◌≤◌, ltb, length};
 ghost use Rattle.octets.specs.Bytes.{placed};
 ghost use Rattle.volume_spec.specs.Volume as spec;

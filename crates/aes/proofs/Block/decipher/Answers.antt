@@ -1,0 +1,7 @@
+use Rattle.aes.specs.Block.{decipher_is}
+use borrow.Author.Rules.{rules}
+use Rattle.aes.proofs.Block.decipher.Goals as goal
+
+pub returns : goal.returns
+returns c =
+    rw (decipher_is, c.store-out.ensures, c.inv_cipher.ensures, c.load.ensures)

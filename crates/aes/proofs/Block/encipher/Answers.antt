@@ -1,0 +1,7 @@
+use Rattle.aes.specs.Block.{encipher_is}
+use borrow.Author.Rules.{rules}
+use Rattle.aes.proofs.Block.encipher.Goals as goal
+
+pub returns : goal.returns
+returns c =
+    rw (encipher_is, c.store-out.ensures, c.cipher.ensures, c.load.ensures)

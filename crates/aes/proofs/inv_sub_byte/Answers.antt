@@ -1,0 +1,6 @@
+use borrow.Author.Rules.{rules}
+use native.Mathlib.Omega.{arith}
+use Rattle.aes.proofs.inv_sub_byte.Goals as goal
+
+pub returns : goal.returns
+returns c = c.requires.at c.args.x (omega arith)

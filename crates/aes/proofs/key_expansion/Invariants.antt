@@ -1,0 +1,16 @@
+use mathlib.Core.Path.{◌≡◌, refl, sym, ap, ap₂, ◌∙◌}
+use Prim.Native.Nat.{◌+◌, ◌-◌, ◌≤◌}
+use Rattle.fips197.specs.Field.{xtime}
+use Rattle.fips197.specs.KeyExpansion.{rcon, round_key, next_key}
+use Rattle.fips197.specs.Table.{sbox}
+use Rattle.fips197.proofs.SBox.{sbox_rule}
+use Rattle.fips197.proofs.KeyExpansion.{round_key_zero, round_key-next, rcon-next, AreKeys, keys_start, keys_next, keys_all}
+use borrow.Author.Rules.{rules}
+use native.Mathlib.Omega.{arith}
+use Rattle.aes.proofs.key_expansion.Given as goal
+
+abbrev pub invariant-loop-i : goal.invariant-loop-i
+invariant-loop-i l = (l.i ≤ 10) × (l.k ≡ round_key l.initial.k l.i) × (l.rcon ≡ rcon l.i) × AreKeys l.initial.k (l.i + 1) l.keys
+
+abbrev pub decreases-loop-i : goal.decreases-loop-i
+decreases-loop-i l = 10 - l.i
