@@ -41,12 +41,14 @@ module _ (c : ℕ) where
 
 pub below_at : (n : ℕ) (word : List ℕ) → digits_below n word ≡ true → (i : ℕ) → i < length word → value (get_or word i 0) < n
 unfolding digits_below
+below_at n [] h i l = elim l [ ]
 below_at n (c ∷ cs) h zero l = ltb-true (value c) n (&&_left (ltb (value c) n) (digits_below n cs) h)
 below_at n (c ∷ cs) h (suc i) l = below_at n cs (&&_right (ltb (value c) n) (digits_below n cs) h) i (omega arith)
 
 -- a byte that is no such digit, wherever it stands
 pub below_not : (n : ℕ) (word : List ℕ) (i : ℕ) → i < length word → n ≤ value (get_or word i 0) → digits_below n word ≡ false
 unfolding digits_below
+below_not n [] i l h = elim l [ ]
 below_not n (c ∷ cs) zero l h = rw (le-ltb (value c) n h)
 below_not n (c ∷ cs) (suc i) l h = behind (ltb (value c) n) (below_not n cs i (omega arith) h)
   where

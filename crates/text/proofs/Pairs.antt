@@ -25,6 +25,7 @@ hex_length (b ∷ bs) = omega (arith, hex_length bs)
 
 pub hex_first : (s : List ℕ) (i j : ℕ) → j ≡ 2 * i → i < length s → get_or (hex s) j 0 ≡ digit (get_or s i 0 / 16)
 unfolding hex
+hex_first [] i j e l = elim l [ ]
 hex_first (b ∷ bs) zero j e l = rw e
 hex_first (b ∷ bs) (suc i) zero e l = omega arith
 hex_first (b ∷ bs) (suc i) (suc zero) e l = omega arith
@@ -32,6 +33,7 @@ hex_first (b ∷ bs) (suc i) (suc (suc j)) e l = hex_first bs i j (omega arith) 
 
 pub hex_second : (s : List ℕ) (i j : ℕ) → j ≡ 2 * i + 1 → i < length s → get_or (hex s) j 0 ≡ digit (get_or s i 0 % 16)
 unfolding hex
+hex_second [] i j e l = elim l [ ]
 hex_second (b ∷ bs) zero j e l = rw e
 hex_second (b ∷ bs) (suc i) zero e l = omega arith
 hex_second (b ∷ bs) (suc i) (suc zero) e l = omega arith

@@ -17,12 +17,12 @@ loop-i-init c = (omega arith, refl)
 
 pub round-next-requires : goal.round-next-requires
 unfolding sbox
-round-next-requires c κs = sbox_rule
+round-next-requires c = sbox_rule
 
 pub loop-i-preserved : goal.loop-i-preserved
 loop-i-preserved c =
     let l = c.loop-i in
-    let ks = c.args.t1 in (
+    let ks = c.args.keys in (
       omega arith,
       c.round-next.ensures ∙ ap (λ (x : State). round x (get_or ks (l.i + 1) [])) l.invariant.1
           ∙ sym (rounds-next ks c.add_round_key-t.result l.i),
@@ -30,7 +30,7 @@ loop-i-preserved c =
 
 pub sub_bytes-requires : goal.sub_bytes-requires
 unfolding sbox
-sub_bytes-requires c κs = sbox_rule
+sub_bytes-requires c = sbox_rule
 
 pub returns : goal.returns
 unfolding cipher

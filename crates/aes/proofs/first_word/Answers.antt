@@ -7,17 +7,5 @@ returns c =
       c.add_word.ensures,
       c.add_word-temp.ensures,
       c.sub_word.ensures,
-      c.before.before.before.before.rot_word_lem.ensures,
+      c.rot_word.ensures,
     )
-
-pub rot_word-requires : goal.rot_word-requires
-rot_word-requires c = (λ c κs. search rules) c
-
-pub sub_word-requires : goal.sub_word-requires
-sub_word-requires c = (λ c κs. search rules) c
-
-pub add_word-temp-requires : goal.add_word-temp-requires
-add_word-temp-requires c = (λ c κs. search rules) c
-
-pub add_word-requires : goal.add_word-requires
-add_word-requires c = (λ c κs. search rules) c

@@ -17,7 +17,7 @@ loop-i-init c =
 
 pub next_key-next-requires : goal.next_key-next-requires
 unfolding sbox
-next_key-next-requires c κs = sbox_rule
+next_key-next-requires c = sbox_rule
 
 pub loop-i-preserved : goal.loop-i-preserved
 loop-i-preserved c =

@@ -11,15 +11,3 @@ returns c =
       c.add_word-b.ensures,
       c.first_word-a.ensures,
     )
-
-pub first_word-a-requires : goal.first_word-a-requires
-first_word-a-requires c = (λ c κs. search rules) c
-
-pub add_word-b-requires : goal.add_word-b-requires
-add_word-b-requires c = (λ c κs. search rules) c
-
-pub add_word-c-requires : goal.add_word-c-requires
-add_word-c-requires c = (λ c κs. search rules) c
-
-pub add_word-d-requires : goal.add_word-d-requires
-add_word-d-requires c = (λ c κs. search rules) c

@@ -5,16 +5,7 @@ use Rattle.octets.specs.Bytes.{number}
 use Rattle.octets.proofs.Bytes.{number-next, number_past, number_room}
 use borrow.Author.Rules.{rules}
 use native.Mathlib.Omega.{arith}
-use Rattle.numbers.proofs.number.Lts as lts
 use Rattle.numbers.proofs.number.Goals as goal
-
--- a byte of the string is below 256, so that the number has room
-byte : (k : lts.After-shared_slice_known-1 invariant-loop decreases-loop) (i : ℕ) → get_or k.args.s.now i 0 < 256
-byte k i = omega (arith, k.shared_slice_known-1.given i)
-
-room : (k : lts.After-shared_slice_known-1 invariant-loop decreases-loop) (i : ℕ) → i < 8
-    → number i k.args.s.now k.args.at * 256 + 255 < 18446744073709551616
-room k i h = number_room i k.args.s.now k.args.at (byte k) h
 
 pub returns-then-s-at : goal.returns-then-s-at
 returns-then-s-at c = sym (number_past _ _ _ c.if-s-at.true)
@@ -25,15 +16,17 @@ loop-i-init c = (omega arith, refl)
 
 pub overflow_mul-n : goal.overflow_mul-n
 overflow_mul-n c =
+    let byte : (i : ℕ) → get_or c.args.s.now i 0 < 256 = λ i. omega (arith, c.shared_slice_known-1.given i) in
+    let room : (i : ℕ) → i < 8 → number i c.args.s.now c.args.at * 256 + 255 < 18446744073709551616 = λ i h. number_room i c.args.s.now c.args.at byte h in
     let l = c.loop-i in
-    let k = c.before.before.before in
-    record { fits = omega (arith, l.invariant.1, room k l.i (omega arith)) }
+    record { fits = omega (arith, l.invariant.1, room l.i (omega arith)) }
 
 pub overflow_add-n : goal.overflow_add-n
 overflow_add-n c =
+    let byte : (i : ℕ) → get_or c.args.s.now i 0 < 256 = λ i. omega (arith, c.shared_slice_known-1.given i) in
+    let room : (i : ℕ) → i < 8 → number i c.args.s.now c.args.at * 256 + 255 < 18446744073709551616 = λ i h. number_room i c.args.s.now c.args.at byte h in
     let l = c.loop-i in
-    let k = c.before.before.before.before.before in
-    record { fits = omega (arith, l.invariant.1, room k l.i (omega arith), c.wide.ensures, c.byte_at.ensures, byte k (k.args.at + l.i)) }
+    record { fits = omega (arith, l.invariant.1, room l.i (omega arith), c.wide.ensures, c.byte_at.ensures, byte (c.args.at + l.i)) }
 
 pub loop-i-preserved : goal.loop-i-preserved
 loop-i-preserved c =

@@ -9,6 +9,6 @@ use Rattle.text.proofs.hex.Goals as goal
 
 pub returns : goal.returns
 returns c =
-    let bytes = c.args.t1 in
+    let bytes = c.args.bytes in
     let n : length bytes ≡ 16 = search rules in
     c.put_pairs.ensures ∙ placed_whole _ (spec.hex bytes) (omega (arith, hex_length bytes))

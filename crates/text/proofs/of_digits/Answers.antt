@@ -14,33 +14,29 @@ loop-i-init c = (omega arith, omega arith, (λ k h. omega arith), refl)
 
 pub returns-then-d-gt9 : goal.returns-then-d-gt9
 returns-then-d-gt9 c =
-    let turn = c.before.before.before.before in
-    let a = turn.args in
-    (sym (digits_not a.word.now a.largest (below_not 10 a.word.now turn.loop-i.i (omega arith) (omega (arith, c.value-d.ensures)))), omega arith)
+    let a = c.args in
+    (sym (digits_not a.word.now a.largest (below_not 10 a.word.now c.loop-i.i (omega arith) (omega (arith, c.value-d.ensures)))), omega arith)
 
 pub returns-then-largest-d : goal.returns-then-largest-d
 returns-then-largest-d c =
-    let turn = c.before.before.before.before.before in
-    let a = turn.args in
-    let l = turn.loop-i in
-    let next = l.sum * 10 + spec.value-d (get_or a.word.now l.i 0) in
+    let a = c.args in
+    let l = c.loop-i in
+    let next = l.sum * 10 + spec.value (get_or a.word.now l.i 0) in
     let g = from_grows next (drop (l.i + 1) a.word.now) in
     (sym (digits_above a.word.now a.largest (omega (arith, g, from_next l.sum a.word.now l.i (omega arith), l.invariant.3, c.value-d.ensures))), omega arith)
 
 pub returns-then-largest-d-2 : goal.returns-then-largest-d-2
 returns-then-largest-d-2 c =
-    let turn = c.before.before.before.before.before.before in
-    let a = turn.args in
-    let l = turn.loop-i in
-    let next = l.sum * 10 + spec.value-d (get_or a.word.now l.i 0) in
+    let a = c.args in
+    let l = c.loop-i in
+    let next = l.sum * 10 + spec.value (get_or a.word.now l.i 0) in
     let g = from_grows next (drop (l.i + 1) a.word.now) in
     (sym (digits_above a.word.now a.largest (omega (arith, g, from_next l.sum a.word.now l.i (omega arith), l.invariant.3, c.value-d.ensures))), omega arith)
 
 pub loop-i-preserved : goal.loop-i-preserved
 loop-i-preserved c =
-    let turn = c.before.before.before.before.before.before in
-    let a = turn.args in
-    let l = turn.loop-i in (
+    let a = c.args in
+    let l = c.loop-i in (
       omega arith,
       omega arith,
       below_more _ _ l.invariant.2 (omega (arith, c.value-d.ensures)),

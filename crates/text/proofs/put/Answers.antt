@@ -8,15 +8,14 @@ use Rattle.text.proofs.put.Goals as goal
 pub returns-then-out-text : goal.returns-then-out-text
 returns-then-out-text c =
     let a = c.args in
-    (sym (placed_not a.out-1.now a.at a.text.now (omega arith)), sym (end_not a.out-1.now a.at a.text.now (omega arith)))
+    (sym (placed_not a.out.now a.at a.text.now (omega arith)), sym (end_not a.out.now a.at a.text.now (omega arith)))
 
 pub returns-then-out-text-2 : goal.returns-then-out-text-2
 returns-then-out-text-2 c =
     let a = c.args in
-    (sym (placed_not a.out-1.now a.at a.text.now (omega arith)), sym (end_not a.out-1.now a.at a.text.now (omega arith)))
+    (sym (placed_not a.out.now a.at a.text.now (omega arith)), sym (end_not a.out.now a.at a.text.now (omega arith)))
 
 pub returns : goal.returns
 returns c =
-    let copied = c.before.before in
-    let a = copied.args in
-    (copied.copy.ensures, sym (end_fits a.out-1.now a.at a.text.now (omega arith)))
+    let a = c.args in
+    (c.copy.ensures, sym (end_fits a.out.now a.at a.text.now (omega arith)))

@@ -8,9 +8,8 @@ use Rattle.text.proofs.put_hex.Goals as goal
 
 pub returns-then-s-eq0 : goal.returns-then-s-eq0
 returns-then-s-eq0 c =
-    let put = c.before.before in
-    let a = put.args in
-    rw (word_none a.s.now (omega arith)) put.put.ensures
+    let a = c.args in
+    rw (word_none a.s.now (omega arith)) c.put.ensures
 
 pub returns-then-out-s : goal.returns-then-out-s
 returns-then-out-s c =
@@ -18,7 +17,7 @@ returns-then-out-s c =
     let s = a.s.now in
     let n = hex_length s in
     rw (word_some s (omega arith))
-    (sym (placed_not a.out-1.now a.at (spec.hex s) (omega (arith, n))), sym (end_not a.out-1.now a.at (spec.hex s) (omega (arith, n))))
+    (sym (placed_not a.out.now a.at (spec.hex s) (omega (arith, n))), sym (end_not a.out.now a.at (spec.hex s) (omega (arith, n))))
 
 pub returns-then-out-s-2 : goal.returns-then-out-s-2
 returns-then-out-s-2 c =
@@ -26,12 +25,11 @@ returns-then-out-s-2 c =
     let s = a.s.now in
     let n = hex_length s in
     rw (word_some s (omega arith))
-    (sym (placed_not a.out-1.now a.at (spec.hex s) (omega (arith, n))), sym (end_not a.out-1.now a.at (spec.hex s) (omega (arith, n))))
+    (sym (placed_not a.out.now a.at (spec.hex s) (omega (arith, n))), sym (end_not a.out.now a.at (spec.hex s) (omega (arith, n))))
 
 pub returns : goal.returns
 returns c =
-    let put = c.before.before.before.before in
-    let a = put.args in
+    let a = c.args in
     let s = a.s.now in
     let n = hex_length s in
-    rw (word_some s (omega arith)) (c.put_pairs.ensures, rw (← n) (sym (end_fits a.out-1.now a.at (spec.hex s) (omega (arith, n)))))
+    rw (word_some s (omega arith)) (c.put_pairs.ensures, rw (← n) (sym (end_fits a.out.now a.at (spec.hex s) (omega (arith, n)))))

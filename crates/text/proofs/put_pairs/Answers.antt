@@ -19,9 +19,8 @@ bounds-out-at-in-loop-i c = simp length-set (omega arith)
 
 pub loop-i-preserved : goal.loop-i-preserved
 loop-i-preserved c =
-    let turn = c.before.before.before.before.before in
-    let a = turn.args in
-    let l = turn.loop-i in (
+    let a = c.args in
+    let l = c.loop-i in (
       omega arith,
       simp length-set l.invariant.1,
       rw (l.invariant.2, c.digit.ensures, c.digit-in-loop-i.ensures) (paste_pair a.out.now a.s.now a.at l.i (omega arith) (omega arith)),

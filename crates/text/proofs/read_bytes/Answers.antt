@@ -10,36 +10,32 @@ use Rattle.text.proofs.read_bytes.Goals as goal
 pub returns-then-not-is_bytes : goal.returns-then-not-is_bytes
 returns-then-not-is_bytes c =
     let a = c.args in
-    rw (of_none a.word.now (sym c.is_bytes.ensures ∙ not-true _ c.if-not-is_bytes.true))
-    (sym (placed-none a.out-1.now a.at), sym (end_none a.out-1.now a.at))
+    rw (of_none a.word.now (sym c.is_bytes.ensures ∙ c.if-not-is_bytes.true))
+    (sym (placed-none a.out.now a.at), sym (end_none a.out.now a.at))
 
 pub returns-then-out-count : goal.returns-then-out-count
 returns-then-out-count c =
     let a = c.args in
     let b = spec.unhex a.word.now in
     let n = unhex-length a.word.now in
-    rw (of_bytes a.word.now (sym c.is_bytes.ensures ∙ not-false _ c.if-not-is_bytes.false))
-    (sym (placed_not a.out-1.now a.at b (omega (arith, n))), sym (end_not a.out-1.now a.at b (omega (arith, n))))
+    rw (of_bytes a.word.now (sym c.is_bytes.ensures ∙ c.if-not-is_bytes.false))
+    (sym (placed_not a.out.now a.at b (omega (arith, n))), sym (end_not a.out.now a.at b (omega (arith, n))))
 
 pub returns-then-out-count-2 : goal.returns-then-out-count-2
 returns-then-out-count-2 c =
-    let tried = c.before.before.before in
-    let a = tried.args in
+    let a = c.args in
     let b = spec.unhex a.word.now in
     let n = unhex-length a.word.now in
-    rw (of_bytes a.word.now (sym tried.is_bytes.ensures ∙ not-false _ c.if-not-is_bytes.false))
-    (sym (placed_not a.out-1.now a.at b (omega (arith, n))), sym (end_not a.out-1.now a.at b (omega (arith, n))))
+    rw (of_bytes a.word.now (sym c.is_bytes.ensures ∙ c.if-not-is_bytes.false))
+    (sym (placed_not a.out.now a.at b (omega (arith, n))), sym (end_not a.out.now a.at b (omega (arith, n))))
 
 pub read_pairs-requires : goal.read_pairs-requires
-read_pairs-requires c κs = (omega arith, sym c.is_bytes.ensures ∙ not-false _ c.if-not-is_bytes.false)
+read_pairs-requires c = (omega arith, sym c.is_bytes.ensures ∙ c.if-not-is_bytes.false)
 
 pub returns : goal.returns
 returns c =
-    let read = c.before.before in
-    let accepted = read.before.before.before.before in
-    let tried = accepted.before in
-    let a = tried.args in
+    let a = c.args in
     let b = spec.unhex a.word.now in
     let n = unhex-length a.word.now in
-    rw (of_bytes a.word.now (sym tried.is_bytes.ensures ∙ not-false _ accepted.if-not-is_bytes.false))
-    (read.read_pairs.ensures, rw (← n) (sym (end_fits a.out-1.now a.at b (omega (arith, n)))))
+    rw (of_bytes a.word.now (sym c.is_bytes.ensures ∙ c.if-not-is_bytes.false))
+    (c.read_pairs.ensures, rw (← n) (sym (end_fits a.out.now a.at b (omega (arith, n)))))

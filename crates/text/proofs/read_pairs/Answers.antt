@@ -17,24 +17,21 @@ loop-i-init c =
 
 pub overflow_mul-out : goal.overflow_mul-out
 overflow_mul-out c =
-    let turn = c.before.before.before in
-    let a = turn.args in
-    let b = pair_below a.word.now turn.requires.1 (2 * turn.loop-i.i) (omega arith) (omega arith) in
+    let a = c.args in
+    let b = pair_below a.word.now c.requires.1 (2 * c.loop-i.i) (omega arith) (omega arith) in
     omega (arith, b, c.value.ensures)
 
 pub overflow_add-out : goal.overflow_add-out
 overflow_add-out c =
-    let turn = c.before.before.before.before.before in
-    let a = turn.args in
-    let b = pair_below a.word.now turn.requires.1 (2 * turn.loop-i.i) (omega arith) (omega arith) in
-    let d = pair_below a.word.now turn.requires.1 (2 * turn.loop-i.i + 1) (omega arith) (omega arith) in
+    let a = c.args in
+    let b = pair_below a.word.now c.requires.1 (2 * c.loop-i.i) (omega arith) (omega arith) in
+    let d = pair_below a.word.now c.requires.1 (2 * c.loop-i.i + 1) (omega arith) (omega arith) in
     omega (arith, b, d, c.value.ensures, c.value-in-loop-i.ensures)
 
 pub loop-i-preserved : goal.loop-i-preserved
 loop-i-preserved c =
-    let turn = c.before.before.before.before.before in
-    let a = turn.args in
-    let l = turn.loop-i in
+    let a = c.args in
+    let l = c.loop-i in
     let n = unhex-length a.word.now in (
       omega arith,
       simp length-set l.invariant.1,

@@ -9,4 +9,4 @@ unfolding spec.word
 returns c =
     let a = c.args in
     let w = c.word_at-found.ensures.0 in
-    rw w (word_bytes a.parting a.line.now c.word_start-start.result-1 ∙ ap (spec.up_to a.parting) c.word_start-start.ensures)
+    rw w (word_bytes a.parting a.line.now c.word_start-start.result ∙ ap (spec.up_to a.parting) c.word_start-start.ensures)

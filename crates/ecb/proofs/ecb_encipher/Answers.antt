@@ -1,0 +1,6 @@
+use borrow.Author.Rules.{rules}
+use Rattle.ecb.proofs.ecb_encipher.Goals as goal
+
+pub returns : goal.returns
+returns c =
+    rw (c.transform.ensures, c.round_keys.ensures, c.new.ensures, c.sixteen.ensures)

@@ -1,0 +1,16 @@
+use mathlib.Core.Path.{◌≡◌, ◌∙◌}
+use Prim.Native.Nat.{◌+◌, ◌-◌}
+use lib.ListN.{length, take, drop, length-drop}
+use lib.Seq.{length-take-le}
+use Rattle.octets.proofs.Fill.{fill_length}
+use Rattle.ecb.specs.Ecb.{block_function}
+use Rattle.ecb.proofs.Blocks.{Done, start, next, end}
+use borrow.Author.Rules.{rules}
+use native.Mathlib.Omega.{arith}
+use Rattle.ecb.proofs.transform.Given as goal
+
+abbrev pub invariant-loop-data : goal.invariant-loop-data
+invariant-loop-data l = Done (block_function l.inverse l.keys) l.initial.data «data» l.at
+
+abbrev pub decreases-loop-data : goal.decreases-loop-data
+decreases-loop-data l = length l.initial.data - l.at

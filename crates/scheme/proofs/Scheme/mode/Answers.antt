@@ -1,0 +1,19 @@
+use Rattle.scheme.specs.Machine.{mode_of}
+use borrow.Author.Rules.{rules}
+use Rattle.scheme.proofs.Scheme.mode.Goals as goal
+
+pub returns-in-Cenc : goal.returns-in-Cenc
+unfolding mode_of
+returns-in-Cenc c = rw c.enum_told-1.given.1
+
+pub returns-in-Cbc1 : goal.returns-in-Cbc1
+unfolding mode_of
+returns-in-Cbc1 c = rw c.enum_told-in-Cbc1-1.given.1
+
+pub returns-in-Cens : goal.returns-in-Cens
+unfolding mode_of
+returns-in-Cens c = rw c.enum_told-in-Cens-1.given.1
+
+pub returns-in-Cbcs : goal.returns-in-Cbcs
+unfolding mode_of
+returns-in-Cbcs c = rw c.enum_told-in-Cbcs-1.given.1
