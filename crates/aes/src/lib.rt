@@ -22,10 +22,10 @@ pub type State = [[u8; 4]; 4];
 // The keys of the initial addition and of each round.
 pub type RoundKeys = [State; Key::ROUNDS + 1];
 
-#[derive(Drop)]
+#[derive(Clone, Copy)]
 pub struct Key(pub [u8; Key::SIZE]);
 
-#[derive(Drop)]
+#[derive(Clone, Copy)]
 pub struct Block(pub [u8; Block::SIZE]);
 
 impl Key {

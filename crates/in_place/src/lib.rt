@@ -7,7 +7,7 @@ ghost use Rattle.stream_spec.specs.Stream as spec;
 use stream::{Ended, Fed, Stream};
 
 // What feeding a lent record answers; the record itself is with its lender.
-#[derive(Drop)]
+#[derive(Clone, Copy)]
 pub struct Reply {
     pub answer: u8,
     pub released: usize,

@@ -73,4 +73,4 @@ pub run_alike : {i j : Issuer} → AlikeIssuers i j → (ns : List ℕ) (k : ℕ
 unfolding run grant
 run_alike s [] k = refl
 run_alike s (n ∷ ns) zero = alike_answer s n
-run_alike s (n ∷ ns) (suc k) = run_alike (alike_issuers s n) ns k
+run_alike {i = i} {j = j} s (n ∷ ns) (suc k) = run_alike {i = (grant i n).issuer} {j = (grant j n).issuer} (alike_issuers s n) ns k

@@ -9,14 +9,14 @@ ghost use Rattle.issuer_spec.specs.Issuer as spec;
 use track_spec::StartVector;
 
 // How many bytes of a start vector the track's samples carry.
-#[derive(Drop)]
+#[derive(Clone, Copy)]
 pub enum IvSize {
     Eight,
     Sixteen,
 }
 
 // What is granted next: the counter and, in size 16, the eight bytes before it. Once the largest is covered, nothing.
-#[derive(Drop)]
+#[derive(Clone, Copy)]
 pub struct Issuer {
     pub size: IvSize,
     pub first: [u8; 8],
@@ -42,14 +42,14 @@ impl Issuer {
 }
 
 // What starting an issuer answers.
-#[derive(Drop)]
+#[derive(Clone, Copy)]
 pub struct Started {
     pub answer: u8,
     pub issuer: Issuer,
 }
 
 // What a grant answers: the start vector, and the issuer to use next.
-#[derive(Drop)]
+#[derive(Clone, Copy)]
 pub struct Granted {
     pub answer: u8,
     pub vector: StartVector,

@@ -54,7 +54,7 @@ pub fn ciphered_at(scheme: Scheme, pattern: Pattern, n: usize, o: usize) -> bool
 }
 
 // In a protected range of n bytes at offset o, or in clear bytes; and the protected bytes before it.
-#[derive(Drop)]
+#[derive(Clone, Copy)]
 struct Position {
     inside: bool,
     n: usize,

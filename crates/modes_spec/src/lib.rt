@@ -4,14 +4,14 @@
 ghost use Rattle.std.specs.Prelude.{◌≡◌};
 
 // Plain text to cipher text, or back.
-#[derive(Drop)]
+#[derive(Clone, Copy)]
 pub enum Direction {
     Lock,
     Open,
 }
 
 // What a mode keeps from one part to the next: the counter block, or the cipher text that the next block is chained to.
-#[derive(Drop)]
+#[derive(Clone, Copy)]
 pub struct ModeBlock(pub [u8; ModeBlock::SIZE]);
 
 impl ModeBlock {

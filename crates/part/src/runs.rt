@@ -8,7 +8,7 @@ ghost use Rattle.scheme.specs.Walk.{RunAt};
 use modes::ModeBlock;
 use scheme::{Pattern, Scheme};
 
-#[derive(Drop)]
+#[derive(Clone, Copy)]
 pub(crate) struct Run {
     pub ciphered: bool,
     pub end: usize,

@@ -15,7 +15,7 @@ use subsample_spec::SubsampleMap;
 use track_spec::StartVector;
 
 // How the ranges of a track are ciphered; a chain that starts anew takes the IV.
-#[derive(Drop)]
+#[derive(Clone, Copy)]
 pub(crate) struct Ciphering {
     pub direction: Direction,
     pub scheme: Scheme,
@@ -24,7 +24,7 @@ pub(crate) struct Ciphering {
 }
 
 // The counter or chain block, and how many bytes of the counter block's key stream are used.
-#[derive(Drop)]
+#[derive(Clone, Copy)]
 pub(crate) struct Progress {
     pub block: ModeBlock,
     pub used: usize,

@@ -9,7 +9,7 @@ use subsample_spec::SubsampleMap;
 use track_spec::{Parameters, StartVector};
 
 // What finding a key answers.
-#[derive(Drop)]
+#[derive(Clone, Copy)]
 pub struct KeyFound {
     pub answer: u8,
     pub key: Key,
@@ -21,7 +21,7 @@ impl KeyFound {
 }
 
 // What reading the inputs of a sample answers.
-#[derive(Drop)]
+#[derive(Clone, Copy)]
 pub struct InputsRead {
     pub answer: u8,
     pub parameters: Parameters,

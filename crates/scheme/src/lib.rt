@@ -16,7 +16,7 @@ pub fn first_block(iv: StartVector) -> ModeBlock
     ModeBlock::new(iv.bytes())
 }
 
-#[derive(Drop)]
+#[derive(Clone, Copy)]
 pub enum Scheme {
     Cenc,
     Cbc1,
@@ -25,14 +25,14 @@ pub enum Scheme {
 }
 
 // The two modes of operation.
-#[derive(Drop)]
+#[derive(Clone, Copy)]
 pub enum Mode {
     Counter,
     Chain,
 }
 
 // The pattern of a track, in blocks: so many are ciphered, then so many are not, and so on.
-#[derive(Drop)]
+#[derive(Clone, Copy)]
 pub struct Pattern {
     pub crypt: u8,
     pub skip: u8,

@@ -13,7 +13,7 @@ use subsample_spec::SubsampleMap;
 use track_spec::{Parameters, StartVector};
 
 // What was declared at the start of a stream. No feeding changes it.
-#[derive(Drop)]
+#[derive(Clone, Copy)]
 pub struct Declared {
     pub direction: Direction,
     pub parameters: Parameters,
@@ -23,7 +23,7 @@ pub struct Declared {
 }
 
 // How far a stream has come: the position, the counter or chain block, and the bytes held.
-#[derive(Drop)]
+#[derive(Clone, Copy)]
 pub struct Progress {
     pub position: usize,
     pub block: ModeBlock,
@@ -32,7 +32,7 @@ pub struct Progress {
 }
 
 // A sample on its way.
-#[derive(Drop)]
+#[derive(Clone, Copy)]
 pub struct Stream {
     pub declared: Declared,
     pub progress: Progress,
@@ -95,14 +95,14 @@ impl Stream {
 }
 
 // What starting a stream answers.
-#[derive(Drop)]
+#[derive(Clone, Copy)]
 pub struct Started {
     pub answer: u8,
     pub stream: Stream,
 }
 
 // What a piece is answered before it is fed, and if accepted how many bytes it makes due and how many are held after it.
-#[derive(Drop)]
+#[derive(Clone, Copy)]
 pub struct Checked {
     pub answer: u8,
     pub due: usize,
@@ -110,7 +110,7 @@ pub struct Checked {
 }
 
 // What feeding a piece answers: how many bytes were released, and the record after it.
-#[derive(Drop)]
+#[derive(Clone, Copy)]
 pub struct Fed {
     pub answer: u8,
     pub released: usize,
@@ -118,7 +118,7 @@ pub struct Fed {
 }
 
 // What ending a stream answers.
-#[derive(Drop)]
+#[derive(Clone, Copy)]
 pub struct Ended {
     pub answer: u8,
 }

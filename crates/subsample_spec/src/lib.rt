@@ -10,7 +10,7 @@ ghost use Rattle.subsample_spec.specs.Auxiliary as spec;
 use track_spec::StartVector;
 
 // The entries of a sample: clear and protected lengths, and how many are used; unused places are zero.
-#[derive(Drop)]
+#[derive(Clone, Copy)]
 pub struct SubsampleMap {
     pub clear: [u16; SubsampleMap::LIMIT],
     pub protected: [u32; SubsampleMap::LIMIT],
@@ -51,7 +51,7 @@ impl SubsampleMap {
 }
 
 // What reading auxiliary data answers.
-#[derive(Drop)]
+#[derive(Clone, Copy)]
 pub struct AuxiliaryRead {
     pub answer: u8,
     pub map: SubsampleMap,

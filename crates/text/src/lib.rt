@@ -24,7 +24,7 @@ pub fn value(c: u8) -> u8
 }
 
 // A number that a word is, and whether it is one.
-#[derive(Drop)]
+#[derive(Clone, Copy)]
 pub struct Number {
     pub good: bool,
     pub value: u64,
@@ -186,7 +186,7 @@ fn read_pairs(word: &[u8], out: &mut [u8], at: usize)
 }
 
 // Where a word of a line starts and ends.
-#[derive(Drop)]
+#[derive(Clone, Copy)]
 pub struct Span {
     pub start: usize,
     pub end: usize,

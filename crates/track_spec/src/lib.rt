@@ -8,11 +8,11 @@ ghost use Rattle.std.specs.Prelude.{◌≡◌};
 ghost use Rattle.track_spec.specs.Track as spec;
 
 // The KID of a track: the name of its key.
-#[derive(Drop)]
+#[derive(Clone, Copy)]
 pub struct Kid(pub [u8; Kid::SIZE]);
 
 // A start vector of 16 bytes; one of 8 is filled out with zeros.
-#[derive(Drop)]
+#[derive(Clone, Copy)]
 pub struct StartVector(pub [u8; StartVector::SIZE]);
 
 impl Kid {
@@ -48,7 +48,7 @@ impl StartVector {
 }
 
 // What a track's box holds, the scheme's code with it.
-#[derive(Drop)]
+#[derive(Clone, Copy)]
 pub struct Parameters {
     pub code: [u8; 4],
     pub version: u8,
@@ -90,14 +90,14 @@ impl Parameters {
 }
 
 // What reading a box answers.
-#[derive(Drop)]
+#[derive(Clone, Copy)]
 pub struct BoxRead {
     pub answer: u8,
     pub parameters: Parameters,
 }
 
 // What writing a box answers: the number of bytes written, 0 if refused.
-#[derive(Drop)]
+#[derive(Clone, Copy)]
 pub struct BoxWritten {
     pub answer: u8,
     pub length: usize,

@@ -118,7 +118,7 @@ fn counter() {
 }
 
 // A key and a block of the chain.
-#[derive(Drop)]
+#[derive(Clone, Copy)]
 struct Chain {
     key: [u8; Key::SIZE],
     block: [u8; Block::SIZE],

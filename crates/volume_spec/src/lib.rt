@@ -4,7 +4,7 @@
 pub mod refusal;
 
 // An entry of the index: where a record lies, the day that it was stored and the days of its term.
-#[derive(Drop)]
+#[derive(Clone, Copy)]
 pub struct Entry {
     pub offset: u64,
     pub length: u64,
@@ -18,7 +18,7 @@ impl Entry {
 }
 
 // The end of a volume: the offset of the index, how many entries it has, the latest day stored, and a last field that is zero.
-#[derive(Drop)]
+#[derive(Clone, Copy)]
 pub struct Trailer {
     pub offset: u64,
     pub count: u64,
@@ -32,14 +32,14 @@ impl Trailer {
 }
 
 // What writing a volume answers: its length, 0 if refused.
-#[derive(Drop)]
+#[derive(Clone, Copy)]
 pub struct Written {
     pub answer: u8,
     pub length: usize,
 }
 
 // Where a record lies in the volume, 0 and 0 if refused.
-#[derive(Drop)]
+#[derive(Clone, Copy)]
 pub struct Found {
     pub answer: u8,
     pub offset: usize,

@@ -12,8 +12,8 @@ use Rattle.ecb.proofs.transform.Goals as goal
 pub loop-data-init : goal.loop-data-init
 loop-data-init c = start _ _
 
-pub overflow-sub-loop : goal.overflow-sub-loop
-overflow-sub-loop c = omega (arith, fill_length c.loop-data.invariant.filled, c.loop-data.invariant.filled.fits)
+pub overflow_sub-data : goal.overflow_sub-data
+overflow_sub-data c = omega (arith, fill_length c.loop-data.invariant.filled, c.loop-data.invariant.filled.fits)
 
 pub overflow_add-end : goal.overflow_add-end
 overflow_add-end c = omega (arith, fill_length c.loop-data.invariant.filled)
@@ -36,8 +36,8 @@ loop-data-preserved c =
     let t = c.loop-data-test.true in
     let m : l.at + 16 - l.at ≡ 16 = omega arith in
     let n : length (take (l.at + 16 - l.at) (drop l.at l.«data»)) ≡ 16 = rw m (length-take-le 16 (drop l.at l.«data») (simp length-drop (omega (arith, t)))) in
-    next l.invariant (omega (arith, t, fill_length l.invariant.filled)) c.block.new.1.1.0
-    (c.block.auto.1.1.0 ∙ n) c.block.ensures
+    next l.invariant (omega (arith, t, fill_length l.invariant.filled)) c.block.new.part
+    (c.block.auto.part ∙ n) c.block.ensures
 
 pub shape_of-data : goal.shape_of-data
 shape_of-data c = fill_length c.loop-data.invariant.filled

@@ -10,7 +10,7 @@ use native.Mathlib.Omega.{arith}
 use Rattle.ecb.proofs.transform.Given as goal
 
 abbrev pub invariant-loop-data : goal.invariant-loop-data
-invariant-loop-data l = Done (block_function l.inverse l.keys) l.initial.data «data» l.at
+invariant-loop-data l = Done (block_function l.inverse l.keys) l.initial.«data» l.«data» l.at
 
 abbrev pub decreases-loop-data : goal.decreases-loop-data
-decreases-loop-data l = length l.initial.data - l.at
+decreases-loop-data l = length l.initial.«data» - l.at

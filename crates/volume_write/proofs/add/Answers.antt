@@ -43,14 +43,14 @@ store-requires c =
     (is_valid, fits)
 
 -- the sum of the lengths
-pub overflow-add-t16 : goal.overflow-add-t16
-overflow-add-t16 c =
+pub overflow_add-result-2 : goal.overflow_add-result-2
+overflow_add-result-2 c =
     let fits : (let a = c.args in length a.volume.now + length a.«record».now + 24 ≤ length a.out.now) = ltb-false _ _ (sym c.is_short.ensures ∙ c.if-is_short.false) in
     omega (arith, fits)
 
 pub returns : goal.returns
 unfolding add after_adding
-returns c =
+returns-then-not-is_valid c =
     let is_valid : valid c.args.volume.now ≡ true = sym c.is_valid.ensures ∙ c.if-not-is_valid.false in
     let not_back : (let a = c.args in (trailer a.volume.now).latest ≤ a.today) = rw (← c.read_trailer.ensures) (omega (arith, c.if-today-read_trailer.false)) in
     let fits : (let a = c.args in length a.volume.now + length a.«record».now + 24 ≤ length a.out.now) = ltb-false _ _ (sym c.is_short.ensures ∙ c.if-is_short.false) in

@@ -5,11 +5,7 @@ use Rattle.volume_spec.proofs.Valid.{valid_has, filled_by}
 use Rattle.volume_spec.proofs.Placing.{added-stored}
 use borrow.Author.Rules.{rules}
 use native.Mathlib.Omega.{arith}
-use Rattle.volume_write.proofs.store.Lts as lts
 use Rattle.volume_write.proofs.store.Goals as goal
-
-abbrev record-stored : lts.After-copy-3 → lts.After-copy-2
-record-stored c = c.before.before.before.before.before
 
 pub overflow_sub-end : goal.overflow_sub-end
 overflow_sub-end c =
@@ -37,16 +33,14 @@ slice_bounds-copy-start-2 c =
     let filled : (let t = c.read_trailer-old.result in t.offset + t.count * 24 + 24 ≡ length c.args.volume.now) = filled_by _ _ c.read_trailer-old.ensures c.requires.0 in
     omega (arith, filled)
 
-pub overflow-sub-copy-2 : goal.overflow-sub-copy-2
-overflow-sub-copy-2 c = part-copy-start-2 c
+pub slice_bounds-copy-count-2 : goal.slice_bounds-copy-count-2
+slice_bounds-copy-count-2 c = slice_bounds-copy-start-2 c
 
 pub returns : goal.returns
 returns c =
-    let new = record-stored c in
-    let front = new in
-    let old = front in
-    let given = old.pre in
-    let whole = filled old in
-    added-stored _ _ _ _ (valid_has _ given.0) _ given.1 _ old.read_trailer-old.ensures
-    front.copy.ensures new.copy-2.ensures c.copy-3.ensures c.store_fields.ensures c.store_fields-2.ensures
+    let filled : (let t = c.read_trailer-old.result in t.offset + t.count * 24 + 24 ≡ length c.args.volume.now) = filled_by _ _ c.read_trailer-old.ensures c.requires.0 in
+    let given = c.requires in
+    let whole = filled in
+    added-stored _ _ _ _ (valid_has _ given.0) _ given.1 _ c.read_trailer-old.ensures
+    c.copy.ensures c.copy-2.ensures c.copy-3.ensures c.store_fields.ensures c.store_fields-2.ensures
     (omega arith) (omega arith) (omega arith) (omega (arith, whole))

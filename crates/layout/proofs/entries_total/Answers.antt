@@ -1,0 +1,61 @@
+use mathlib.Core.List.{◌∷◌}
+use mathlib.Core.Path.{◌≡◌}
+use Prim.Native.Nat.{◌+◌, ◌-◌, ◌≤◌}
+use mir.Val.{Fits}
+use mir.Syntax.{w16, w32}
+use lib.ListN.{length, get_or, drop}
+use Rattle.subsample_spec.specs.Auxiliary.{limit}
+use Rattle.scheme.specs.Layout.{entry, entries}
+use Rattle.scheme.proofs.SampleParts.{entry_next, no_more, Summed, sum-start, sum-next, sum_end}
+use borrow.Author.Rules.{rules}
+use native.Mathlib.Omega.{arith}
+use Rattle.layout.proofs.entries_total.Goals as goal
+
+pub loop-k-init : goal.loop-k-init
+loop-k-init c = (sum-start _, omega arith)
+
+pub offset_bounds-clear-k : goal.offset_bounds-clear-k
+offset_bounds-clear-k c = omega arith
+
+pub bounds-clear-k : goal.bounds-clear-k
+bounds-clear-k c = omega arith
+
+pub overflow_cast-all : goal.overflow_cast-all
+overflow_cast-all c = search rules
+
+pub offset_bounds-protected-k : goal.offset_bounds-protected-k
+offset_bounds-protected-k c = omega arith
+
+pub bounds-protected-k : goal.bounds-protected-k
+bounds-protected-k c = omega arith
+
+pub overflow_cast-all-in-loop-k : goal.overflow_cast-all-in-loop-k
+overflow_cast-all-in-loop-k c = search rules
+
+pub overflow_add-all : goal.overflow_add-all
+overflow_add-all c =
+    let clears : Fits w16 (get_or c.args.clear c.loop-k.k 0) = search rules in
+    let protects : Fits w32 (get_or c.args.protected c.loop-k.k 0) = search rules in
+    omega (arith, clears.fits, protects.fits)
+
+pub overflow_add-all-in-loop-k : goal.overflow_add-all-in-loop-k
+overflow_add-all-in-loop-k c =
+    let clears : Fits w16 (get_or c.args.clear c.loop-k.k 0) = search rules in
+    let protects : Fits w32 (get_or c.args.protected c.loop-k.k 0) = search rules in
+    omega (arith, clears.fits, protects.fits, c.loop-k.invariant.0.low)
+
+pub overflow_add-k : goal.overflow_add-k
+overflow_add-k c = omega arith
+
+pub loop-k-smaller : goal.loop-k-smaller
+loop-k-smaller c = omega arith
+
+pub loop-k-preserved : goal.loop-k-preserved
+loop-k-preserved c =
+    let here : (let a = c.args in let k = c.loop-k.k in drop k (entries a.clear a.protected a.count) ≡ entry (get_or a.clear k 0) (get_or a.protected k 0) ∷ drop (k + 1) (entries a.clear a.protected a.count)) = let a = c.args in let n : length a.clear ≡ limit = search rules in let m : length a.protected ≡ limit = search rules in entry_next a.clear a.protected a.count c.loop-k.k c.loop-k-test.true (omega arith) (omega arith) in
+    let clears : Fits w16 (get_or c.args.clear c.loop-k.k 0) = search rules in
+    let protects : Fits w32 (get_or c.args.protected c.loop-k.k 0) = search rules in
+    (sum-next c.loop-k.invariant.0 _ _ here clears.fits protects.fits, omega arith)
+
+pub returns : goal.returns
+returns c = sum_end c.loop-k.invariant.0 (no_more _ _ _ _ c.loop-k-test.false)

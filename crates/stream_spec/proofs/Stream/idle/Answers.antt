@@ -1,0 +1,6 @@
+use borrow.Author.Rules.{rules}
+use Rattle.stream_spec.proofs.Stream.idle.Goals as goal
+
+pub returns : goal.returns
+returns c =
+    rw (c.begun.ensures, c.new-2.ensures, c.new.ensures, c.empty.ensures, c.unprotected.ensures)

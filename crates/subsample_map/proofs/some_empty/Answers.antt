@@ -1,0 +1,21 @@
+use mathlib.Core.Bool.{false}
+use mathlib.Core.Path.{◌≡◌, refl}
+use Prim.Native.Nat.{◌≤◌, ◌-◌}
+use Rattle.subsample_spec.specs.Auxiliary.{some, empty_entry}
+use Rattle.subsample_spec.proofs.Counting.{found, none_yet, none_at_all}
+use borrow.Author.Rules.{rules}
+use native.Mathlib.Omega.{arith}
+use Rattle.subsample_map.proofs.some_empty.Goals as goal
+
+pub loop-i-init : goal.loop-i-init
+unfolding some
+loop-i-init c = (omega arith, refl)
+
+pub returns-then-empty_entry : goal.returns-then-empty_entry
+returns-then-empty_entry c = found _ _ _ _ c.empty_entry.ensures c.loop-i-test.true c.if-empty_entry.true
+
+pub loop-i-preserved : goal.loop-i-preserved
+loop-i-preserved c = (omega arith, none_yet _ c.args.map.count _ _ c.empty_entry.ensures c.loop-i.invariant.1 c.if-empty_entry.false)
+
+pub returns : goal.returns
+returns c = none_at_all _ _ _ c.loop-i.invariant.0 c.loop-i-test.false c.loop-i.invariant.1
