@@ -50,7 +50,7 @@ overflow_add-result-2 c =
 
 pub returns : goal.returns
 unfolding add after_adding
-returns-then-not-is_valid c =
+returns c =
     let is_valid : valid c.args.volume.now ≡ true = sym c.is_valid.ensures ∙ c.if-not-is_valid.false in
     let not_back : (let a = c.args in (trailer a.volume.now).latest ≤ a.today) = rw (← c.read_trailer.ensures) (omega (arith, c.if-today-read_trailer.false)) in
     let fits : (let a = c.args in length a.volume.now + length a.«record».now + 24 ≤ length a.out.now) = ltb-false _ _ (sym c.is_short.ensures ∙ c.if-is_short.false) in

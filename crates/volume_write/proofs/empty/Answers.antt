@@ -10,6 +10,6 @@ returns-then-out-lt-SIZE c =
 
 pub returns : goal.returns
 unfolding trailer_bytes
-returns-then-out-lt-SIZE c =
+returns c =
     rw (c.store_fields.ensures, ← length_none)
     (written_done _ _ _ (empty_enough _ (omega (arith, c.if-out-lt-SIZE.false))))

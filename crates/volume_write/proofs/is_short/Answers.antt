@@ -17,6 +17,6 @@ returns-then-room-volume-2 c =
     sym (lt-ltb a.room (a.volume + a.«record» + 24) (omega arith))
 
 pub returns : goal.returns
-returns-then-room-volume c =
+returns c =
     let a = c.args in
     short-left a.room a.volume a.«record» (omega arith)

@@ -18,6 +18,6 @@ returns-then-out-at c =
     sym (placed_not _ _ _ (omega (arith, length_fields a.a a.b a.c a.d)))
 
 pub returns : goal.returns
-returns-then-out-lt-SIZE c =
+returns c =
     fields-stored _ _ _ _ _ _ (omega (arith, c.if-out-at.false, c.if-out-lt-SIZE.false))
     c.put64.ensures c.put64-2.ensures c.put32.ensures c.put32-2.ensures

@@ -1,0 +1,15 @@
+use Prim.Native.Nat.{◌-◌, ◌<◌}
+use lib.ListN.{length}
+use Rattle.octets.proofs.Fill.{fill_length}
+use Rattle.aes.specs.Block.{encipher, decipher}
+use Rattle.scheme.proofs.Ranges.{Ranged, range_start, range_asked, range_kept, range_turned, range_end}
+use borrow.Author.Rules.{rules}
+use native.Mathlib.Omega.{arith}
+use Rattle.part.proofs.walk.range_part.Given as goal
+
+abbrev pub invariant-loop-at : goal.invariant-loop-at
+invariant-loop-at l =
+    (Ranged (encipher l.keys) (decipher l.keys) l.how.direction l.how.scheme l.how.pattern l.how.iv.0 l.n l.from l.initial.used l.initial.block.0 l.initial.part l.part l.block.0 l.used l.at)
+
+abbrev pub decreases-loop-at : goal.decreases-loop-at
+decreases-loop-at l = length l.initial.part - l.at
