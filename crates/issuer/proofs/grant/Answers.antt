@@ -25,6 +25,7 @@ overflow_sub-past c =
     rw c.advance-past.ensures (advance-some _ _ (count-some _ allowed))
 
 pub returns-then-issuer-past : goal.returns-then-issuer-past
+unfolding last_counter
 returns-then-issuer-past c =
     let allowed : bad_count c.args.blocks ≡ false = sym c.bad_count.ensures ∙ c.if-bad_count.false in
     let past : (let a = c.args in largest < last_counter a.issuer a.blocks) = rw (← c.advance-past.ensures) (omega (arith, c.if-issuer-past.true)) in
@@ -33,7 +34,7 @@ returns-then-issuer-past c =
 
 pub returns : goal.returns
 unfolding last_counter
-returns-then-bad_count c =
+returns c =
     let allowed : bad_count c.args.blocks ≡ false = sym c.bad_count.ensures ∙ c.if-bad_count.false in
     let within : (let a = c.args in last_counter a.issuer a.blocks ≤ largest) = rw (← c.advance-past.ensures) (omega (arith, c.if-issuer-past.false)) in
     rw (c.vector.ensures, c.after.ensures, c.advance-past.ensures)

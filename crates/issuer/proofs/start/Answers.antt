@@ -31,6 +31,6 @@ returns-then-bytes-eq-SIZE c =
 
 pub returns : goal.returns
 unfolding start start_rows started answer
-returns-then-bytes-eq8 c =
+returns c =
     let n = length c.args.bytes.now in
     rw (ne_eqb n 8 c.if-bytes-eq8.false, ne_eqb n 16 c.if-bytes-eq-SIZE.false, c.exhausted.ensures)

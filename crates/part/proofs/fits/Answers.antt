@@ -12,14 +12,14 @@ use Rattle.part.proofs.fits.Goals as goal
 pub returns-then-sample_length-gt-LONGEST_SAMPLE : goal.returns-then-sample_length-gt-LONGEST_SAMPLE
 returns-then-sample_length-gt-LONGEST_SAMPLE c =
     let a = c.args in
-    rw (fits_is a.parameters a.map a.sample-length c.requires a.from a.size, lt-leb a.sample-length longest c.if-sample_length-gt-LONGEST_SAMPLE.true)
+    rw (fits_is a.parameters a.map a.sample_length c.requires a.from a.size, lt-leb a.sample_length longest c.if-sample_length-gt-LONGEST_SAMPLE.true)
 
 pub returns-then-not-within : goal.returns-then-not-within
 returns-then-not-within c =
-    let short : leb c.args.sample-length longest ≡ true = le-leb c.args.sample-length longest c.if-sample_length-gt-LONGEST_SAMPLE.false in
+    let short : leb c.args.sample_length longest ≡ true = le-leb c.args.sample_length longest c.if-sample_length-gt-LONGEST_SAMPLE.false in
     let a = c.args in
     rw (
-      fits_is a.parameters a.map a.sample-length c.requires a.from a.size,
+      fits_is a.parameters a.map a.sample_length c.requires a.from a.size,
       short,
       sym c.total_length-end.ensures,
       sym c.within.ensures ∙ c.if-not-within.true,
@@ -27,11 +27,11 @@ returns-then-not-within c =
 
 pub returns-then-held_at-ne0 : goal.returns-then-held_at-ne0
 returns-then-held_at-ne0 c =
-    let short : leb c.args.sample-length longest ≡ true = le-leb c.args.sample-length longest c.if-sample_length-gt-LONGEST_SAMPLE.false in
+    let short : leb c.args.sample_length longest ≡ true = le-leb c.args.sample_length longest c.if-sample_length-gt-LONGEST_SAMPLE.false in
     let within : leb (c.args.from + c.args.size) c.total_length-end.result ≡ true = sym c.within.ensures ∙ c.if-not-within.false in
     let a = c.args in
     rw (
-      fits_is a.parameters a.map a.sample-length c.requires a.from a.size,
+      fits_is a.parameters a.map a.sample_length c.requires a.from a.size,
       short,
       sym c.total_length-end.ensures,
       within,
@@ -46,12 +46,12 @@ overflow_add-from c =
     omega (arith, leb-true (a.from + a.size) c.total_length-end.result within)
 
 pub returns : goal.returns
-returns-then-sample_length-gt-LONGEST_SAMPLE c =
-    let short : leb c.args.sample-length longest ≡ true = le-leb c.args.sample-length longest c.if-sample_length-gt-LONGEST_SAMPLE.false in
+returns c =
+    let short : leb c.args.sample_length longest ≡ true = le-leb c.args.sample_length longest c.if-sample_length-gt-LONGEST_SAMPLE.false in
     let within : leb (c.args.from + c.args.size) c.total_length-end.result ≡ true = sym c.within.ensures ∙ c.if-not-within.false in
     let a = c.args in
     rw (
-      fits_is a.parameters a.map a.sample-length c.requires a.from a.size,
+      fits_is a.parameters a.map a.sample_length c.requires a.from a.size,
       short,
       sym c.total_length-end.ensures,
       within,

@@ -13,17 +13,17 @@ returns-then-parameters-ne1 c =
 
 pub returns-then-not-fits : goal.returns-then-not-fits
 returns-then-not-fits c =
-    let k = transformed_not _ _ _ _ _ _ _ _ _ (sym c.fits2.ensures ∙ c.if-not-fits.true) in
+    let k = transformed_not _ _ _ _ _ _ _ _ _ (sym c.fits.ensures ∙ c.if-not-fits.true) in
     (sym (ap (λ (t : Stepped). t.released) k), sym (ap (λ (t : Stepped). t.state.block) k))
 
 pub cipher_part-requires : goal.cipher_part-requires
 cipher_part-requires c =
     let a = c.args in
-    let w = sym c.fits2.ensures ∙ c.if-not-fits.false in
+    let w = sym c.fits.ensures ∙ c.if-not-fits.false in
     (fits_length a.parameters _ _ c.if-parameters-ne1.false _ _ w, rw c.ciphering-how.ensures (fits_asks a.parameters _ _ c.if-parameters-ne1.false _ _ w))
 
 pub returns : goal.returns
-returns-then-parameters-ne1 c =
-    let w = sym c.fits2.ensures ∙ c.if-not-fits.false in
+returns c =
+    let w = sym c.fits.ensures ∙ c.if-not-fits.false in
     let k = transformed_fits _ _ _ c.args.parameters _ _ _ _ _ c.if-parameters-ne1.false w ∙ (rw c.ciphering-how.ensures at c.cipher_part.ensures) in
     (sym (ap (λ (t : Stepped). t.released) k), sym (ap (λ (t : Stepped). t.state.block) k))

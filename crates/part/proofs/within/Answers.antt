@@ -11,4 +11,4 @@ returns-then-end-from c =
     sym (lt-leb (a.from + a.size) a.end (omega (arith, c.if-end-from.true)))
 
 pub returns : goal.returns
-returns-then-end-from c = leb-left _ _ _ c.if-end-from.false
+returns c = leb-left _ _ _ c.if-end-from.false

@@ -15,7 +15,7 @@ returns-then-count-eq0 c =
 
 pub returns : goal.returns
 unfolding protected_entries
-returns-then-count-eq0 c =
+returns c =
     let m = c.args.map in
     let n : length m.clear ≡ limit = search rules in
     let e = c.new.ensures in

@@ -13,7 +13,7 @@ start c = c.before.before.before.before.before
 
 -- what was handed in
 abbrev given : tie.Start → Inputs
-given s = inputs s.args.code.now s.args.«track-box».now s.args.auxiliary.now s.args.«key-record».now
+given s = inputs s.args.code.now s.args.track_box.now s.args.auxiliary.now s.args.«key-record».now
 
 returns : tie.Need-returns
 returns c =

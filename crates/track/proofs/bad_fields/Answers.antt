@@ -34,7 +34,7 @@ returns-then-has_constant c =
 
 pub returns : goal.returns
 unfolding bad_fields
-returns-then-not-allowed c =
+returns c =
     rw (
       sym c.allowed.ensures ∙ c.if-not-allowed.false,
       eq-eqb _ _ (c.if-track_box-box_length.false ∙ c.box_length.ensures),

@@ -14,7 +14,7 @@ returns-then-flags-ne0 c = rw (sym c.bad_version.ensures ∙ c.if-bad_version.fa
 
 pub returns : goal.returns
 unfolding bad_head
-returns-then-bad_version c =
+returns c =
     rw (
       sym c.bad_version.ensures ∙ c.if-bad_version.false,
       eq-eqb _ _ (sym c.flags.ensures ∙ c.if-flags-ne0.false),

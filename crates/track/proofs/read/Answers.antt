@@ -17,7 +17,7 @@ returns-then-not-known c = c.refused.ensures ∙ rw (sym c.known.ensures ∙ c.i
 pub returns-then-bad_frame : goal.returns-then-bad_frame
 unfolding read_box read_rows answer
 returns-then-bad_frame c =
-    let frame_bad : bad_frame 32 tenc c.args.«track-box».now ≡ true = sym c.bad_frame.ensures ∙ c.if-bad_frame.true in
+    let frame_bad : bad_frame 32 tenc c.args.track_box.now ≡ true = sym c.bad_frame.ensures ∙ c.if-bad_frame.true in
     c.refused-then-bad_frame.ensures ∙ rw (sym c.known.ensures ∙ c.if-not-known.false, frame_bad)
 
 pub fields-p-requires : goal.fields-p-requires
@@ -25,9 +25,9 @@ fields-p-requires c =
     (sym c.known.ensures ∙ c.if-not-known.false, omega arith)
 
 pub returns-then-bad_head : goal.returns-then-bad_head
-unfolding read_box read_rows answer
+unfolding read_box read_rows answer fields
 returns-then-bad_head c =
-    let read_fields : (let a = c.args in c.fields-p.result ≡ fields a.code.now a.«track-box».now) = let a = c.args in c.fields-p.ensures ∙ ap (λ (v : ℕ). fields_from 12 a.code.now v a.«track-box».now) c.version.ensures in
+    let read_fields : (let a = c.args in c.fields-p.result ≡ fields a.code.now a.track_box.now) = let a = c.args in c.fields-p.ensures ∙ ap (λ (v : ℕ). fields_from 12 a.code.now v a.track_box.now) c.version.ensures in
     c.refused-then-bad_head.ensures
     ∙ rw (
       sym c.known.ensures ∙ c.if-not-known.false,
@@ -37,9 +37,9 @@ returns-then-bad_head c =
     )
 
 pub returns-then-bad_fields : goal.returns-then-bad_fields
-unfolding read_box read_rows answer
+unfolding read_box read_rows answer fields
 returns-then-bad_fields c =
-    let read_fields : (let a = c.args in c.fields-p.result ≡ fields a.code.now a.«track-box».now) = let a = c.args in c.fields-p.ensures ∙ ap (λ (v : ℕ). fields_from 12 a.code.now v a.«track-box».now) c.version.ensures in
+    let read_fields : (let a = c.args in c.fields-p.result ≡ fields a.code.now a.track_box.now) = let a = c.args in c.fields-p.ensures ∙ ap (λ (v : ℕ). fields_from 12 a.code.now v a.track_box.now) c.version.ensures in
     c.refused-then-bad_fields.ensures
     ∙ rw (
       sym c.known.ensures ∙ c.if-not-known.false,
@@ -50,9 +50,9 @@ returns-then-bad_fields c =
     )
 
 pub returns : goal.returns
-unfolding read_box read_rows answer
-returns-then-not-known c =
-    let read_fields : (let a = c.args in c.fields-p.result ≡ fields a.code.now a.«track-box».now) = let a = c.args in c.fields-p.ensures ∙ ap (λ (v : ℕ). fields_from 12 a.code.now v a.«track-box».now) c.version.ensures in
+unfolding read_box read_rows answer fields
+returns c =
+    let read_fields : (let a = c.args in c.fields-p.result ≡ fields a.code.now a.track_box.now) = let a = c.args in c.fields-p.ensures ∙ ap (λ (v : ℕ). fields_from 12 a.code.now v a.track_box.now) c.version.ensures in
     rw (
       sym c.known.ensures ∙ c.if-not-known.false,
       sym c.bad_frame.ensures ∙ c.if-bad_frame.false,

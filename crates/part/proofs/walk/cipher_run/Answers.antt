@@ -23,6 +23,6 @@ pub returns-in-Chain : goal.returns-in-Chain
 returns-in-Chain c =
     λ fs.
     let m = sym c.mode-mode.ensures ∙ c.in-Chain.is in
-    let o = c.choose-chain.ensures ∙ ap (λ (v : List ℕ). cond c.args.restart v c.args.block.0) c.First-Block.ensures in
+    let o = c.choose-chain.ensures ∙ ap (λ (v : List ℕ). cond c.args.restart v c.args.block.0) c.first_block.ensures in
     run_chain _ _ _ _ _ fs _ c.args.block.0 _ _ _ _ m (λ b l. encipher_length c.args.keys b) (λ b l. decipher_length c.args.keys b)
     (c.requires.1 m) (rw o at c.cbc.ensures.0) (rw o at c.cbc.ensures.1)

@@ -1,0 +1,5 @@
+use borrow.Author.Rules.{rules}
+use Rattle.sample.proofs.no_key.Goals as goal
+
+pub returns : goal.returns
+returns c = rw c.new.ensures

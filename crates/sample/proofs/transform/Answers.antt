@@ -1,0 +1,6 @@
+use borrow.Author.Rules.{rules}
+use Rattle.sample.proofs.transform.Goals as goal
+
+pub returns : goal.returns
+returns c =
+    rw (c.round_keys.ensures, c.first_block.ensures) at c.transform.ensures.0

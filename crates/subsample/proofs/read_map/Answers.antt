@@ -1,0 +1,8 @@
+use Rattle.subsample_spec.specs.Auxiliary.{map_read}
+use borrow.Author.Rules.{rules}
+use Rattle.subsample.proofs.read_map.Goals as goal
+
+pub returns : goal.returns
+unfolding map_read
+returns c =
+    rw (c.new.ensures, c.clear_lengths.ensures, c.protected_lengths.ensures, c.wide-iv.ensures, c.requires.0)
