@@ -36,7 +36,7 @@ start c = c.before.before.before
 
 -- what was handed in
 abbrev given : tie.Start invariant-loop decreases-loop → Inputs
-given s = inputs s.args.scheme.now s.args.track_box.now s.args.auxiliary.now s.args.«key-record».now
+given s = inputs s.args.scheme.now s.args.track_box.now s.args.auxiliary.now s.args.key_record.now
 
 of_bytes : (c : tie.After-shared-slice-known3 invariant-loop decreases-loop) → OfBytes (given (start c))
 of_bytes c =
