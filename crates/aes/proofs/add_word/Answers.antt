@@ -1,7 +1,6 @@
 use mathlib.Core.Path.{refl}
 use Rattle.octets.specs.Xor.{◌⊕◌}
 use Rattle.fips197.specs.Cipher.{add_word}
-use borrow.Author.Rules.{rules}
 use Rattle.aes.proofs.add_word.Goals as goal
 
 pub returns : goal.returns

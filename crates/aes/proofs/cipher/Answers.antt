@@ -1,13 +1,12 @@
 use mathlib.Core.Path.{◌≡◌, refl, sym, ap, ◌∙◌}
 use mathlib.Core.List.{[]}
-use Prim.Native.Nat.{◌+◌, ◌-◌, ◌≤◌}
+use Prim.Native.Nat.{◌+◌}
 use lib.ListN.{get_or}
 use Rattle.fips197.specs.State.{State}
 use Rattle.fips197.specs.Cipher.{round, rounds, cipher}
 use Rattle.fips197.specs.Table.{sbox}
 use Rattle.fips197.proofs.SBox.{sbox_rule}
 use Rattle.fips197.proofs.Rounds.{rounds-next}
-use borrow.Author.Rules.{rules}
 use native.Mathlib.Omega.{arith}
 use Rattle.aes.proofs.cipher.Goals as goal
 

@@ -1,11 +1,6 @@
-use mathlib.Core.Path.{◌≡◌, refl, sym, ap, ◌∙◌}
-use Prim.Native.Nat.{◌-◌, ◌≤◌}
-use Rattle.fips197.specs.InvCipher.{inv_rounds, inv_cipher}
-use Rattle.fips197.specs.Table.{inv_sbox}
-use Rattle.fips197.proofs.SBox.{inv_sbox_rule}
-use Rattle.fips197.proofs.Rounds.{inv_rounds-next, inv_rounds_end}
-use borrow.Author.Rules.{rules}
-use native.Mathlib.Omega.{arith}
+use mathlib.Core.Path.{◌≡◌}
+use Prim.Native.Nat.{◌≤◌}
+use Rattle.fips197.specs.InvCipher.{inv_rounds}
 use Rattle.aes.proofs.inv_cipher.Given as goal
 
 abbrev pub invariant-loop-i : goal.invariant-loop-i

@@ -1,6 +1,5 @@
 use Rattle.octets.specs.Xor.{◌⊕◌}
 use Rattle.fips197.proofs.Field.{inv_mix_row}
-use borrow.Author.Rules.{rules}
 use Rattle.aes.proofs.inv_mix.Goals as goal
 
 pub returns : goal.returns

@@ -1,5 +1,4 @@
 use Rattle.fips197.specs.InvCipher.{inv_round}
-use borrow.Author.Rules.{rules}
 use Rattle.aes.proofs.inv_round.Goals as goal
 
 pub returns : goal.returns

@@ -1,11 +1,10 @@
 use mathlib.Core.Path.{◌≡◌, refl, sym, ap, ap₂, ◌∙◌}
-use Prim.Native.Nat.{◌+◌, ◌-◌, ◌≤◌}
+use Prim.Native.Nat.{◌+◌}
 use Rattle.fips197.specs.Field.{xtime}
-use Rattle.fips197.specs.KeyExpansion.{rcon, round_key, next_key}
+use Rattle.fips197.specs.KeyExpansion.{rcon, next_key}
 use Rattle.fips197.specs.Table.{sbox}
 use Rattle.fips197.proofs.SBox.{sbox_rule}
-use Rattle.fips197.proofs.KeyExpansion.{round_key_zero, round_key-next, rcon-next, AreKeys, keys_start, keys_next, keys_all}
-use borrow.Author.Rules.{rules}
+use Rattle.fips197.proofs.KeyExpansion.{round_key_zero, round_key-next, rcon-next, keys_start, keys_next, keys_all}
 use native.Mathlib.Omega.{arith}
 use Rattle.aes.proofs.key_expansion.Goals as goal
 

@@ -1,12 +1,7 @@
-use mathlib.Core.Path.{◌≡◌, refl, sym, ap, ap₂, ◌∙◌}
+use mathlib.Core.Path.{◌≡◌}
 use Prim.Native.Nat.{◌+◌, ◌-◌, ◌≤◌}
-use Rattle.fips197.specs.Field.{xtime}
-use Rattle.fips197.specs.KeyExpansion.{rcon, round_key, next_key}
-use Rattle.fips197.specs.Table.{sbox}
-use Rattle.fips197.proofs.SBox.{sbox_rule}
-use Rattle.fips197.proofs.KeyExpansion.{round_key_zero, round_key-next, rcon-next, AreKeys, keys_start, keys_next, keys_all}
-use borrow.Author.Rules.{rules}
-use native.Mathlib.Omega.{arith}
+use Rattle.fips197.specs.KeyExpansion.{rcon, round_key}
+use Rattle.fips197.proofs.KeyExpansion.{AreKeys}
 use Rattle.aes.proofs.key_expansion.Given as goal
 
 abbrev pub invariant-loop-i : goal.invariant-loop-i

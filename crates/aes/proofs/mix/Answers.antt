@@ -2,7 +2,6 @@ use mathlib.Core.Path.{ap, ◌∙◌}
 use Prim.Native.Nat.{ℕ}
 use Rattle.octets.specs.Xor.{◌⊕◌}
 use Rattle.fips197.proofs.Field.{mix_row}
-use borrow.Author.Rules.{rules}
 use Rattle.aes.proofs.mix.Goals as goal
 
 pub returns : goal.returns

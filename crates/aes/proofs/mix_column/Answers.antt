@@ -1,6 +1,5 @@
 use Rattle.fips197.specs.Cipher.{matrix}
 use Rattle.fips197.proofs.Lists.{same}
-use borrow.Author.Rules.{rules}
 use Rattle.aes.proofs.mix_column.Goals as goal
 
 pub returns : goal.returns

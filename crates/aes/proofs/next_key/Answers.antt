@@ -1,5 +1,4 @@
 use Rattle.fips197.specs.KeyExpansion.{next_key}
-use borrow.Author.Rules.{rules}
 use Rattle.aes.proofs.next_key.Goals as goal
 
 pub returns : goal.returns

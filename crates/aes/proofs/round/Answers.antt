@@ -1,5 +1,4 @@
 use Rattle.fips197.specs.Cipher.{round}
-use borrow.Author.Rules.{rules}
 use Rattle.aes.proofs.round.Goals as goal
 
 pub returns : goal.returns

@@ -1,5 +1,4 @@
 use Rattle.fips197.proofs.Lists.{same}
-use borrow.Author.Rules.{rules}
 use Rattle.aes.proofs.sub_bytes.Goals as goal
 
 pub returns : goal.returns

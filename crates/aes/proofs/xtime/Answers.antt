@@ -3,7 +3,6 @@ use Prim.Native.Nat.{ℕ, ◌*◌, ◌/◌, ◌%◌}
 use native.Mathlib.Nat.{mod-eq_of_lt}
 use Rattle.octets.specs.Xor.{◌⊕◌}
 use Rattle.fips197.specs.Field.{xtime}
-use borrow.Author.Rules.{rules}
 use native.Mathlib.Omega.{arith}
 use Rattle.aes.proofs.xtime.Goals as goal
 

@@ -1,4 +1,3 @@
-use borrow.Author.Rules.{rules}
 use Rattle.ecb.proofs.apply.Goals as goal
 
 pub returns-then-inverse : goal.returns-then-inverse

@@ -3,7 +3,6 @@ use Rattle.octets.specs.Bytes.{placed}
 use Rattle.octets.proofs.Bytes.{filled_all, placed_whole}
 use Rattle.ecb.specs.Ecb.{block_function}
 use Rattle.ecb.proofs.Blocks.{block-length}
-use borrow.Author.Rules.{rules}
 use Rattle.ecb.proofs.block.Goals as goal
 
 pub returns : goal.returns

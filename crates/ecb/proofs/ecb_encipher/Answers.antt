@@ -1,4 +1,3 @@
-use borrow.Author.Rules.{rules}
 use Rattle.ecb.proofs.ecb_encipher.Goals as goal
 
 pub returns : goal.returns

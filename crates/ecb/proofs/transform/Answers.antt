@@ -3,9 +3,7 @@ use Prim.Native.Nat.{◌+◌, ◌-◌}
 use lib.ListN.{length, take, drop, length-drop}
 use lib.Seq.{length-take-le}
 use Rattle.octets.proofs.Fill.{fill_length}
-use Rattle.ecb.specs.Ecb.{block_function}
-use Rattle.ecb.proofs.Blocks.{Done, start, next, end}
-use borrow.Author.Rules.{rules}
+use Rattle.ecb.proofs.Blocks.{start, next, end}
 use native.Mathlib.Omega.{arith}
 use Rattle.ecb.proofs.transform.Goals as goal
 

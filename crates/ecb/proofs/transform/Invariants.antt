@@ -1,12 +1,7 @@
-use mathlib.Core.Path.{◌≡◌, ◌∙◌}
-use Prim.Native.Nat.{◌+◌, ◌-◌}
-use lib.ListN.{length, take, drop, length-drop}
-use lib.Seq.{length-take-le}
-use Rattle.octets.proofs.Fill.{fill_length}
+use Prim.Native.Nat.{◌-◌}
+use lib.ListN.{length}
 use Rattle.ecb.specs.Ecb.{block_function}
-use Rattle.ecb.proofs.Blocks.{Done, start, next, end}
-use borrow.Author.Rules.{rules}
-use native.Mathlib.Omega.{arith}
+use Rattle.ecb.proofs.Blocks.{Done}
 use Rattle.ecb.proofs.transform.Given as goal
 
 abbrev pub invariant-loop-data : goal.invariant-loop-data

@@ -1,7 +1,6 @@
 use mathlib.Core.Path.{sym, ◌∙◌}
 use lib.ListN.{get_or-append}
 use Rattle.joined.proofs.Joining.{byte_later}
-use borrow.Author.Rules.{rules}
 use Rattle.joined.proofs.byte_of.Goals as goal
 
 pub returns-then-at-first : goal.returns-then-at-first

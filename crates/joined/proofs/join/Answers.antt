@@ -5,7 +5,6 @@ use Prim.Native.Nat.{ℕ, ◌-◌}
 use lib.ListN.{take}
 use Rattle.octets.specs.Bytes.{placed}
 use Rattle.joined.proofs.Joining.{join_is}
-use borrow.Author.Rules.{rules}
 use native.Mathlib.Omega.{arith}
 use Rattle.joined.proofs.join.Goals as goal
 

@@ -1,11 +1,8 @@
 use mathlib.Core.List.{◌++◌}
 use mathlib.Core.Path.{◌≡◌, refl, sym, ◌∙◌}
-use Prim.Native.Nat.{◌≤◌, ◌-◌}
-use lib.ListN.{get_or, replicate}
-use Rattle.octets.specs.Bytes.{list_of}
-use Rattle.octets.proofs.Fill.{Filled, fill_none, fill_next, fill_all}
+use lib.ListN.{get_or}
+use Rattle.octets.proofs.Fill.{fill_none, fill_next, fill_all}
 use Rattle.octets.proofs.Bytes.{list_of-next, filled-list_of}
-use borrow.Author.Rules.{rules}
 use native.Mathlib.Omega.{arith}
 use Rattle.joined.proofs.sixteen.Goals as goal
 

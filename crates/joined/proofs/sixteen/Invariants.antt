@@ -1,12 +1,8 @@
 use mathlib.Core.List.{◌++◌}
-use mathlib.Core.Path.{◌≡◌, refl, sym, ◌∙◌}
 use Prim.Native.Nat.{◌≤◌, ◌-◌}
 use lib.ListN.{get_or, replicate}
 use Rattle.octets.specs.Bytes.{list_of}
-use Rattle.octets.proofs.Fill.{Filled, fill_none, fill_next, fill_all}
-use Rattle.octets.proofs.Bytes.{list_of-next, filled-list_of}
-use borrow.Author.Rules.{rules}
-use native.Mathlib.Omega.{arith}
+use Rattle.octets.proofs.Fill.{Filled}
 use Rattle.joined.proofs.sixteen.Given as goal
 
 abbrev pub invariant-loop-i : goal.invariant-loop-i

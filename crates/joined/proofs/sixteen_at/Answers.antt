@@ -1,7 +1,6 @@
 use mathlib.Core.Path.{ap, ◌∙◌}
 use Rattle.octets.specs.Bytes.{filled}
 use Rattle.joined.proofs.Joining.{drop_later, drop_inside}
-use borrow.Author.Rules.{rules}
 use Rattle.joined.proofs.sixteen_at.Goals as goal
 
 pub returns-then-first-at : goal.returns-then-first-at

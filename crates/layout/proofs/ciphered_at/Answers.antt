@@ -1,5 +1,4 @@
 use Rattle.scheme.specs.Layout.{is_ciphered, in_whole_block}
-use borrow.Author.Rules.{rules}
 use Rattle.layout.proofs.ciphered_at.Goals as goal
 
 pub returns-in-Cenc : goal.returns-in-Cenc

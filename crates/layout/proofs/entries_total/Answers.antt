@@ -1,12 +1,12 @@
 use mathlib.Core.List.{◌∷◌}
 use mathlib.Core.Path.{◌≡◌}
-use Prim.Native.Nat.{◌+◌, ◌-◌, ◌≤◌}
+use Prim.Native.Nat.{◌+◌}
 use mir.Val.{Fits}
 use mir.Syntax.{w16, w32}
 use lib.ListN.{length, get_or, drop}
 use Rattle.subsample_spec.specs.Auxiliary.{limit}
 use Rattle.scheme.specs.Layout.{entry, entries}
-use Rattle.scheme.proofs.SampleParts.{entry_next, no_more, Summed, sum-start, sum-next, sum_end}
+use Rattle.scheme.proofs.SampleParts.{entry_next, no_more, sum-start, sum-next, sum_end}
 use borrow.Author.Rules.{rules}
 use native.Mathlib.Omega.{arith}
 use Rattle.layout.proofs.entries_total.Goals as goal

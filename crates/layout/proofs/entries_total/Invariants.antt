@@ -1,14 +1,6 @@
-use mathlib.Core.List.{◌∷◌}
-use mathlib.Core.Path.{◌≡◌}
-use Prim.Native.Nat.{◌+◌, ◌-◌, ◌≤◌}
-use mir.Val.{Fits}
-use mir.Syntax.{w16, w32}
-use lib.ListN.{length, get_or, drop}
-use Rattle.subsample_spec.specs.Auxiliary.{limit}
-use Rattle.scheme.specs.Layout.{entry, entries}
-use Rattle.scheme.proofs.SampleParts.{entry_next, no_more, Summed, sum-start, sum-next, sum_end}
-use borrow.Author.Rules.{rules}
-use native.Mathlib.Omega.{arith}
+use Prim.Native.Nat.{◌-◌, ◌≤◌}
+use Rattle.scheme.specs.Layout.{entries}
+use Rattle.scheme.proofs.SampleParts.{Summed}
 use Rattle.layout.proofs.entries_total.Given as goal
 
 abbrev pub invariant-loop-k : goal.invariant-loop-k

@@ -2,7 +2,6 @@ use mathlib.Core.Path.{sym}
 use borrow.Author.Tests.{eq-eqb, ne_eqb}
 use Rattle.scheme.specs.Part.{held_under, entries_of}
 use Rattle.scheme.proofs.Unprotected.{held_clear}
-use borrow.Author.Rules.{rules}
 use Rattle.layout.proofs.held_at.Goals as goal
 
 pub returns-then-parameters-ne1 : goal.returns-then-parameters-ne1

@@ -1,6 +1,5 @@
 use mathlib.Core.Path.{sym, ◌∙◌}
 use Rattle.scheme.proofs.Locating.{held_none, held_some}
-use borrow.Author.Rules.{rules}
 use Rattle.layout.proofs.held_in.Goals as goal
 
 pub returns-in-Counter : goal.returns-in-Counter

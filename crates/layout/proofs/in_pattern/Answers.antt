@@ -1,7 +1,6 @@
 use borrow.Author.Tests.{lt-ltb, le-ltb}
 use Rattle.scheme.specs.Layout.{in_whole_block}
 use Rattle.scheme.proofs.Patterns.{every_block, by_period}
-use borrow.Author.Rules.{rules}
 use native.Mathlib.Omega.{arith}
 use Rattle.layout.proofs.in_pattern.Goals as goal
 

@@ -1,13 +1,13 @@
 use mathlib.Core.List.{◌∷◌}
 use mathlib.Core.Path.{◌≡◌}
-use Prim.Native.Nat.{◌+◌, ◌-◌, ◌≤◌}
+use Prim.Native.Nat.{◌+◌}
 use mir.Val.{Fits}
 use mir.Syntax.{w16, w32}
 use lib.ListN.{length, get_or, drop}
 use Rattle.subsample_spec.specs.Auxiliary.{limit}
 use Rattle.scheme.specs.Layout.{entry, entries}
 use Rattle.scheme.proofs.SampleParts.{entry_next, no_more}
-use Rattle.scheme.proofs.Locating.{Locating, locate_start, locate_clear, locate_in, locate_next, locate_none}
+use Rattle.scheme.proofs.Locating.{locate_start, locate_clear, locate_in, locate_next, locate_none}
 use borrow.Author.Rules.{rules}
 use native.Mathlib.Omega.{arith}
 use Rattle.layout.proofs.locate_entry.Goals as goal

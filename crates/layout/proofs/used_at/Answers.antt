@@ -1,7 +1,6 @@
 -- the places: the position located, and not every byte ciphered
 use mathlib.Core.Path.{sym, ◌∙◌}
 use Rattle.scheme.proofs.Locating.{used_cenc, used_in, used_out, used_clear, is_cenc, no_cenc}
-use borrow.Author.Rules.{rules}
 use Rattle.layout.proofs.used_at.Goals as goal
 
 pub returns-then-every_byte : goal.returns-then-every_byte

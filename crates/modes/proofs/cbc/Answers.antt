@@ -1,7 +1,6 @@
-use Rattle.std.proofs.Common.{◌≡◌, ◌+◌, ◌-◌, ◌<◌, length, take, drop, ◌∙◌, arith, length-drop, length-take-le, rules}
-use Rattle.aes.specs.Block.{encipher, decipher}
+use Rattle.std.proofs.Common.{◌≡◌, ◌+◌, ◌-◌, ◌<◌, length, take, drop, ◌∙◌, arith, length-drop, length-take-le}
 use Rattle.octets.proofs.Fill.{fill_length}
-use Rattle.modes_spec.proofs.Chained.{Chained, chain_start, chain_next, chain_done, chain_last}
+use Rattle.modes_spec.proofs.Chained.{chain_start, chain_next, chain_done, chain_last}
 use Rattle.modes.proofs.cbc.Goals as goal
 
 pub loop-part-init : goal.loop-part-init

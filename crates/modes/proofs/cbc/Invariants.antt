@@ -1,7 +1,6 @@
-use Rattle.std.proofs.Common.{◌≡◌, ◌+◌, ◌-◌, ◌<◌, length, take, drop, ◌∙◌, arith, length-drop, length-take-le, rules}
+use Rattle.std.proofs.Common.{◌-◌, length}
 use Rattle.aes.specs.Block.{encipher, decipher}
-use Rattle.octets.proofs.Fill.{fill_length}
-use Rattle.modes_spec.proofs.Chained.{Chained, chain_start, chain_next, chain_done, chain_last}
+use Rattle.modes_spec.proofs.Chained.{Chained}
 use Rattle.modes.proofs.cbc.Given as goal
 
 abbrev pub invariant-loop-part : goal.invariant-loop-part

@@ -1,5 +1,4 @@
 use Rattle.modes_spec.specs.Modes.{block_out, block_chain}
-use Rattle.std.proofs.Common.{rules}
 use Rattle.modes.proofs.chain_block.Goals as goal
 
 pub returns-in-Lock : goal.returns-in-Lock

@@ -4,7 +4,7 @@ use Rattle.aes.specs.Block.{encipher}
 use Rattle.octets.proofs.Fill.{Filled, fill_length, fill_all}
 use Rattle.modes_spec.specs.Modes.{ctr}
 use Rattle.modes_spec.proofs.Counter.{steps, no_step}
-use Rattle.modes_spec.proofs.Streamed.{Streamed, shorter, stream_start, stream_part, stream_next, stream_same, ctr_from}
+use Rattle.modes_spec.proofs.Streamed.{shorter, stream_start, stream_part, stream_next, stream_same, ctr_from}
 use Rattle.modes.proofs.ctr.Goals as goal
 
 pub loop-at-init : goal.loop-at-init

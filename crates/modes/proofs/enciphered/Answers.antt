@@ -1,4 +1,3 @@
-use Rattle.std.proofs.Common.{rules}
 use Rattle.modes.proofs.enciphered.Goals as goal
 
 pub returns : goal.returns

@@ -1,7 +1,6 @@
-use Rattle.std.proofs.Common.{◌≡◌, ℕ, ◌+◌, ◌-◌, ◌<◌, ◌≤◌, List, length, get_or, take, drop, arith, length-drop, get_or-drop, take_all, rules}
+use Rattle.std.proofs.Common.{◌≡◌, ℕ, ◌+◌, ◌<◌, ◌≤◌, List, length, get_or, drop, arith, length-drop, get_or-drop, take_all, rules}
 use Rattle.octets.specs.Xor.{◌⊕◌}
-use Rattle.octets.proofs.Fill.{Filled, fill_none, fill_length, fill_all, fill_at, fill_next}
-use Rattle.modes_spec.specs.Modes.{xors}
+use Rattle.octets.proofs.Fill.{fill_none, fill_length, fill_all, fill_at, fill_next}
 use Rattle.modes_spec.proofs.Strings.{xors-none, xors-next}
 use Rattle.modes.proofs.xor_part.Goals as goal
 

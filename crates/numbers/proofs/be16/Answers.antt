@@ -1,5 +1,4 @@
 use Rattle.octets.proofs.Bytes.{number_below}
-use borrow.Author.Rules.{rules}
 use native.Mathlib.Omega.{arith}
 use Rattle.numbers.proofs.be16.Goals as goal
 

@@ -1,6 +1,5 @@
 use mathlib.Core.Path.{refl}
 use Rattle.octets.specs.Bytes.{digits}
-use borrow.Author.Rules.{rules}
 use Rattle.numbers.proofs.bytes16.Goals as goal
 
 pub returns : goal.returns

@@ -1,7 +1,6 @@
 -- the places: the start, and the number's bytes made
 use mathlib.Core.Path.{ap, ◌∙◌}
 use Rattle.octets.specs.Bytes.{placed}
-use borrow.Author.Rules.{rules}
 use Rattle.numbers.proofs.put64.Goals as goal
 
 pub returns : goal.returns

@@ -1,6 +1,5 @@
 use mathlib.Core.Path.{sym}
 use Rattle.octets.proofs.Bytes.{filled-list_of}
-use borrow.Author.Rules.{rules}
 use Rattle.octets.proofs.four.Goals as goal
 
 pub returns : goal.returns

@@ -1,10 +1,8 @@
 use mathlib.Core.Path.{◌≡◌, refl, sym, ◌∙◌}
-use Prim.Native.Nat.{◌≤◌, ◌-◌}
-use lib.ListN.{length, take, replicate}
+use lib.ListN.{length}
 use lib.Seq.{take_all}
-use Rattle.octets.proofs.Fill.{Filled, fill_none, fill_next, fill_all, take_next}
+use Rattle.octets.proofs.Fill.{fill_none, fill_next, fill_all, take_next}
 use Rattle.octets.proofs.Bytes.{filled-short, filled_long}
-use borrow.Author.Rules.{rules}
 use native.Mathlib.Omega.{arith}
 use Rattle.octets.proofs.sixteen.Goals as goal
 

@@ -1,11 +1,6 @@
-use mathlib.Core.Path.{◌≡◌, refl, sym, ◌∙◌}
 use Prim.Native.Nat.{◌≤◌, ◌-◌}
 use lib.ListN.{length, take, replicate}
-use lib.Seq.{take_all}
-use Rattle.octets.proofs.Fill.{Filled, fill_none, fill_next, fill_all, take_next}
-use Rattle.octets.proofs.Bytes.{filled-short, filled_long}
-use borrow.Author.Rules.{rules}
-use native.Mathlib.Omega.{arith}
+use Rattle.octets.proofs.Fill.{Filled}
 use Rattle.octets.proofs.sixteen.Given as goal
 
 abbrev pub invariant-loop-i : goal.invariant-loop-i

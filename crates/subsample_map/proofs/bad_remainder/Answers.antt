@@ -2,7 +2,6 @@ use mathlib.Core.Bool.{true, false}
 use mathlib.Core.Path.{◌≡◌, sym, ◌∙◌}
 use Rattle.octets.specs.Bytes.{same}
 use Rattle.track_spec.specs.Track.{cbc1}
-use borrow.Author.Rules.{rules}
 use Rattle.subsample_map.proofs.bad_remainder.Goals as goal
 
 pub returns-then-same : goal.returns-then-same

@@ -1,5 +1,4 @@
 use borrow.Author.Tests.{lt-ltb}
-use borrow.Author.Rules.{rules}
 use native.Mathlib.Omega.{arith}
 use Rattle.subsample_map.proofs.bad_sum.Goals as goal
 

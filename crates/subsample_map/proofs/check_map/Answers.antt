@@ -2,7 +2,6 @@ use mathlib.Core.Path.{sym, ◌∙◌}
 use borrow.Author.Tests.{lt-ltb, le-ltb}
 use Rattle.octets.specs.Answers.{answer}
 use Rattle.subsample_spec.specs.Auxiliary.{map_rows}
-use borrow.Author.Rules.{rules}
 use Rattle.subsample_map.proofs.check_map.Goals as goal
 
 pub returns-then-count-gt-LIMIT : goal.returns-then-count-gt-LIMIT

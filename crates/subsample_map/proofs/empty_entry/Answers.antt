@@ -1,5 +1,4 @@
 use borrow.Author.Tests.{eq-eqb, ne_eqb}
-use borrow.Author.Rules.{rules}
 use Rattle.subsample_map.proofs.empty_entry.Goals as goal
 
 pub returns-then-clear-i-eq0 : goal.returns-then-clear-i-eq0

@@ -1,9 +1,6 @@
-use mathlib.Core.Bool.{false}
-use mathlib.Core.Path.{◌≡◌, refl}
-use Prim.Native.Nat.{◌≤◌, ◌-◌}
-use Rattle.subsample_spec.specs.Auxiliary.{some, ragged_entry}
+use mathlib.Core.Path.{refl}
+use Rattle.subsample_spec.specs.Auxiliary.{some}
 use Rattle.subsample_spec.proofs.Counting.{found, none_yet, none_at_all}
-use borrow.Author.Rules.{rules}
 use native.Mathlib.Omega.{arith}
 use Rattle.subsample_map.proofs.some_ragged.Goals as goal
 

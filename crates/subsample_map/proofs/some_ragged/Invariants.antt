@@ -1,10 +1,7 @@
 use mathlib.Core.Bool.{false}
-use mathlib.Core.Path.{◌≡◌, refl}
+use mathlib.Core.Path.{◌≡◌}
 use Prim.Native.Nat.{◌≤◌, ◌-◌}
 use Rattle.subsample_spec.specs.Auxiliary.{some, ragged_entry}
-use Rattle.subsample_spec.proofs.Counting.{found, none_yet, none_at_all}
-use borrow.Author.Rules.{rules}
-use native.Mathlib.Omega.{arith}
 use Rattle.subsample_map.proofs.some_ragged.Given as goal
 
 abbrev pub invariant-loop-i : goal.invariant-loop-i

@@ -1,9 +1,6 @@
-use mathlib.Core.Path.{◌≡◌, refl, sym}
+use mathlib.Core.Path.{◌≡◌}
 use Prim.Native.Nat.{◌≤◌, ◌-◌, ◌*◌}
 use Rattle.subsample_spec.specs.Auxiliary.{sum, entry_length}
-use Rattle.subsample_spec.proofs.Counting.{sum-next}
-use borrow.Author.Rules.{rules}
-use native.Mathlib.Omega.{arith}
 use Rattle.subsample_map.proofs.total.Given as goal
 
 abbrev pub invariant-loop-i : goal.invariant-loop-i

@@ -1,6 +1,5 @@
 use mathlib.Core.Path.{sym, ◌∙◌}
 use Rattle.text.proofs.Pairs.{bytes_dash, bytes_empty, bytes_hex}
-use borrow.Author.Rules.{rules}
 use native.Mathlib.Omega.{arith}
 use Rattle.text.proofs.is_bytes.Goals as goal
 

@@ -1,6 +1,5 @@
 use mathlib.Core.Path.{ap, ◌∙◌}
 use Rattle.text.specs.Text as spec
-use borrow.Author.Rules.{rules}
 use Rattle.text.proofs.number_at.Goals as goal
 
 pub returns : goal.returns

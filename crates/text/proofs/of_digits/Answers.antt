@@ -1,11 +1,10 @@
 use mathlib.Core.List.{[]}
 use mathlib.Core.Path.{◌≡◌, refl, sym, ◌∙◌}
-use Prim.Native.Nat.{ℕ, ◌+◌, ◌*◌, ◌-◌, ◌≤◌, ◌<◌}
-use lib.ListN.{length, get_or, drop, drop_of_length-le}
+use Prim.Native.Nat.{◌+◌, ◌*◌}
+use lib.ListN.{get_or, drop, drop_of_length-le}
 use borrow.Author.Count.{below_more}
 use Rattle.text.specs.Text as spec
 use Rattle.text.proofs.Digits.{below_not, below_all, from_grows, from_next, digits_good, digits_not, digits_above}
-use borrow.Author.Rules.{rules}
 use native.Mathlib.Omega.{arith}
 use Rattle.text.proofs.of_digits.Goals as goal
 

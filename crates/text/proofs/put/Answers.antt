@@ -1,7 +1,6 @@
 use mathlib.Core.Path.{sym}
 use Rattle.octets.proofs.Bytes.{placed_not}
 use Rattle.text.proofs.Pairs.{end_fits, end_not}
-use borrow.Author.Rules.{rules}
 use native.Mathlib.Omega.{arith}
 use Rattle.text.proofs.put.Goals as goal
 

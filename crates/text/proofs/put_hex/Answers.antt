@@ -2,7 +2,6 @@ use mathlib.Core.Path.{sym}
 use Rattle.octets.proofs.Bytes.{placed_not}
 use Rattle.text.specs.Text as spec
 use Rattle.text.proofs.Pairs.{word_none, word_some, hex_length, end_fits, end_not}
-use borrow.Author.Rules.{rules}
 use native.Mathlib.Omega.{arith}
 use Rattle.text.proofs.put_hex.Goals as goal
 

@@ -1,9 +1,7 @@
 use mathlib.Core.Path.{sym, ◌∙◌}
-use borrow.Author.Tests.{not-true, not-false}
 use Rattle.octets.proofs.Bytes.{placed_not}
 use Rattle.text.specs.Text as spec
 use Rattle.text.proofs.Pairs.{of_bytes, of_none, unhex-length, placed-none, end_none, end_fits, end_not}
-use borrow.Author.Rules.{rules}
 use native.Mathlib.Omega.{arith}
 use Rattle.text.proofs.read_bytes.Goals as goal
 

@@ -1,7 +1,6 @@
 use mathlib.Core.Path.{◌∙◌, ap}
 use Rattle.text.specs.Text as spec
 use Rattle.text.proofs.Words.{word_bytes}
-use borrow.Author.Rules.{rules}
 use Rattle.text.proofs.word.Goals as goal
 
 pub returns : goal.returns

@@ -1,6 +1,5 @@
 use mathlib.Core.Path.{sym}
 use Rattle.text.proofs.Words.{word_inside, word_past}
-use borrow.Author.Rules.{rules}
 use native.Mathlib.Omega.{arith}
 use Rattle.text.proofs.word_at.Goals as goal
 

@@ -1,9 +1,8 @@
 -- the place where the fields are allowed and the length that they call for is known
 use mathlib.Core.Bool.{false}
 use mathlib.Core.Path.{◌≡◌, sym, ◌∙◌}
-use borrow.Author.Tests.{eq-eqb, ne_eqb, not-true, not-false}
+use borrow.Author.Tests.{eq-eqb, ne_eqb}
 use Rattle.track_spec.specs.Track.{allowed, box_length, bad_fields}
-use borrow.Author.Rules.{rules}
 use Rattle.track.proofs.bad_fields.Goals as goal
 
 pub returns-then-not-allowed : goal.returns-then-not-allowed

@@ -1,7 +1,6 @@
 use mathlib.Core.Path.{sym, ◌∙◌}
 use borrow.Author.Tests.{eq-eqb, ne_eqb}
 use Rattle.track_spec.specs.Track.{bad_head}
-use borrow.Author.Rules.{rules}
 use Rattle.track.proofs.bad_head.Goals as goal
 
 pub returns-then-bad_version : goal.returns-then-bad_version

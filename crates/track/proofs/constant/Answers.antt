@@ -1,5 +1,4 @@
 use mathlib.Core.Path.{sym, ◌∙◌}
-use borrow.Author.Rules.{rules}
 use Rattle.track.proofs.constant.Goals as goal
 
 pub returns-then-has_constant : goal.returns-then-has_constant

@@ -1,7 +1,6 @@
 use Rattle.octets.proofs.Bytes.{filled_all}
 use Rattle.track_spec.specs.Track.{fields_from}
 use Rattle.track_spec.proofs.Codes.{known-length}
-use borrow.Author.Rules.{rules}
 use Rattle.track.proofs.fields.Goals as goal
 
 pub returns : goal.returns

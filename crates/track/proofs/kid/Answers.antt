@@ -1,4 +1,3 @@
-use borrow.Author.Rules.{rules}
 use Rattle.track.proofs.kid.Goals as goal
 
 pub returns : goal.returns

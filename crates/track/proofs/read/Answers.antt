@@ -2,11 +2,9 @@
 use mathlib.Core.Bool.{true}
 use mathlib.Core.Path.{◌≡◌, sym, ap, ◌∙◌}
 use Prim.Native.Nat.{ℕ}
-use borrow.Author.Tests.{not-true, not-false}
 use Rattle.octets.specs.Answers.{answer}
 use Rattle.boxes.specs.Box.{bad_frame}
 use Rattle.track_spec.specs.Track.{tenc, fields_from, fields, read_rows, read_box}
-use borrow.Author.Rules.{rules}
 use native.Mathlib.Omega.{arith}
 use Rattle.track.proofs.read.Goals as goal
 

@@ -2,7 +2,6 @@
 use mathlib.Core.Bool.{true}
 use mathlib.Core.Path.{◌≡◌, sym, ◌∙◌}
 use Rattle.track_spec.specs.Track.{under_zero_kid, allowed}
-use borrow.Author.Rules.{rules}
 use Rattle.track_allowed.proofs.allowed.Goals as goal
 
 pub returns-then-under_zero_kid : goal.returns-then-under_zero_kid

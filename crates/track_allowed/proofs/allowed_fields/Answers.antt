@@ -1,6 +1,5 @@
 use borrow.Author.Tests.{eq-eqb, ne_eqb}
 use Rattle.track_spec.specs.Track.{allowed_fields}
-use borrow.Author.Rules.{rules}
 use Rattle.track_allowed.proofs.allowed_fields.Goals as goal
 
 pub returns-then-protected-eq0 : goal.returns-then-protected-eq0

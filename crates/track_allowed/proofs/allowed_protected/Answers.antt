@@ -1,7 +1,6 @@
 -- the places: after the first code was tried, and after the second
 use mathlib.Core.Path.{sym, ◌∙◌}
 use Rattle.track_spec.specs.Track.{allowed_protected}
-use borrow.Author.Rules.{rules}
 use Rattle.track_allowed.proofs.allowed_protected.Goals as goal
 
 pub returns-then-same : goal.returns-then-same

@@ -1,7 +1,5 @@
 use mathlib.Core.Path.{sym, ◌∙◌}
-use borrow.Author.Tests.{not-true, not-false}
 use Rattle.octets.specs.Answers.{answer}
-use borrow.Author.Rules.{rules}
 use Rattle.track_allowed.proofs.check.Goals as goal
 
 pub returns-then-not-names_scheme : goal.returns-then-not-names_scheme

@@ -1,6 +1,5 @@
 use mathlib.Core.Path.{sym, ◌∙◌}
 use Rattle.track_spec.specs.Track.{known}
-use borrow.Author.Rules.{rules}
 use Rattle.track_allowed.proofs.known.Goals as goal
 
 pub returns-then-same : goal.returns-then-same

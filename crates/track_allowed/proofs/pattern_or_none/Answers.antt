@@ -1,7 +1,6 @@
 use mathlib.Core.Bool.{true, false}
 use mathlib.Core.Path.{◌≡◌, sym, ◌∙◌}
 use Rattle.track_spec.specs.Track.{no_pattern}
-use borrow.Author.Rules.{rules}
 use Rattle.track_allowed.proofs.pattern_or_none.Goals as goal
 
 pub returns-then-no_pattern : goal.returns-then-no_pattern

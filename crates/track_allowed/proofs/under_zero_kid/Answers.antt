@@ -3,7 +3,6 @@ use mathlib.Core.Path.{◌≡◌, ◌∙◌}
 use lib.Dec.{eqb}
 use Rattle.octets.specs.Bytes.{same}
 use Rattle.track_spec.specs.Track.{zeros}
-use borrow.Author.Rules.{rules}
 use Rattle.track_allowed.proofs.under_zero_kid.Goals as goal
 
 pub returns : goal.returns

@@ -1,5 +1,4 @@
 -- the places: the KID's bytes, and the front stored
-use borrow.Author.Rules.{rules}
 use Rattle.track_write.proofs.store_front.Goals as goal
 
 pub returns : goal.returns

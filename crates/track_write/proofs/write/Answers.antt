@@ -6,7 +6,6 @@ use borrow.Author.Tests.{ne_eqb}
 use Rattle.octets.specs.Answers.{answer}
 use Rattle.track_spec.specs.Track.{box_length, parameter_rows, write_box, after_writing}
 use Rattle.track_spec.proofs.Checking.{check-allowed, write_refused, write_short, write_done}
-use borrow.Author.Rules.{rules}
 use native.Mathlib.Omega.{arith}
 use Rattle.track_write.proofs.write.Goals as goal
 

@@ -1,10 +1,8 @@
 use mathlib.Core.Bool.{true}
 use mathlib.Core.Path.{◌≡◌, sym, ◌∙◌}
 use Prim.Native.Nat.{◌<◌, ◌≤◌}
-use borrow.Author.Tests.{not-true, not-false}
 use Rattle.volume_spec.specs.Volume.{trailer, valid}
 use Rattle.volume_spec.proofs.Disposal.{dispose_not_valid, dispose_missing, dispose_set-back, dispose_early, dispose_done}
-use borrow.Author.Rules.{rules}
 use native.Mathlib.Omega.{arith}
 use Rattle.volume.proofs.disposable.Goals as goal
 

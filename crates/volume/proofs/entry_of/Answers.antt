@@ -1,6 +1,5 @@
 use mathlib.Core.Path.{ap}
 use Rattle.volume_spec.proofs.Valid.{valid_has}
-use borrow.Author.Rules.{rules}
 use native.Mathlib.Omega.{arith}
 use Rattle.volume.proofs.entry_of.Goals as goal
 

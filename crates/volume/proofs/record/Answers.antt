@@ -1,10 +1,8 @@
 use mathlib.Core.Bool.{true}
 use mathlib.Core.Path.{◌≡◌, sym, ◌∙◌}
 use Prim.Native.Nat.{◌≤◌, ◌<◌}
-use borrow.Author.Tests.{not-true, not-false}
 use Rattle.volume_spec.specs.Volume.{trailer, valid}
 use Rattle.volume_spec.proofs.Records.{record_not_valid, record_missing, record_there, found-refused, found_there}
-use borrow.Author.Rules.{rules}
 use native.Mathlib.Omega.{arith}
 use Rattle.volume.proofs.record.Goals as goal
 

@@ -1,10 +1,8 @@
 use mathlib.Core.List.{◌∷◌}
 use mathlib.Core.Path.{◌≡◌, refl, sym, ◌∙◌}
-use Prim.Native.Nat.{◌≤◌, ◌+◌, ◌-◌, ◌*◌}
-use lib.ListN.{length}
+use Prim.Native.Nat.{◌+◌, ◌-◌}
 use Rattle.volume_spec.specs.Volume.{entries, adjoining}
 use Rattle.volume_spec.proofs.Entries.{entries_first, adjoining_elsewhere, adjoining_past, adjoining-next}
-use borrow.Author.Rules.{rules}
 use native.Mathlib.Omega.{arith}
 use Rattle.volume_valid.proofs.adjoins.Goals as goal
 

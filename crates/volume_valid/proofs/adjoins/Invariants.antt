@@ -1,11 +1,7 @@
-use mathlib.Core.List.{◌∷◌}
-use mathlib.Core.Path.{◌≡◌, refl, sym, ◌∙◌}
-use Prim.Native.Nat.{◌≤◌, ◌+◌, ◌-◌, ◌*◌}
+use mathlib.Core.Path.{◌≡◌}
+use Prim.Native.Nat.{◌≤◌, ◌+◌, ◌*◌}
 use lib.ListN.{length}
 use Rattle.volume_spec.specs.Volume.{entries, adjoining}
-use Rattle.volume_spec.proofs.Entries.{entries_first, adjoining_elsewhere, adjoining_past, adjoining-next}
-use borrow.Author.Rules.{rules}
-use native.Mathlib.Omega.{arith}
 use Rattle.volume_valid.proofs.adjoins.Given as goal
 
 -- the entries that are left adjoin from where the last record ended

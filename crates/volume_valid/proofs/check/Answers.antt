@@ -1,6 +1,5 @@
 use Rattle.octets.specs.Answers.{answer}
 use Rattle.volume_spec.specs.Volume.{check}
-use borrow.Author.Rules.{rules}
 use Rattle.volume_valid.proofs.check.Goals as goal
 
 pub returns-then-is_valid : goal.returns-then-is_valid

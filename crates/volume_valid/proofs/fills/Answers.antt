@@ -2,7 +2,6 @@ use mathlib.Core.Path.{sym}
 use Prim.Native.Nat.{◌+◌, ◌*◌}
 use borrow.Author.Tests.{ne_eqb}
 use Rattle.volume_spec.proofs.Room.{fills-left}
-use borrow.Author.Rules.{rules}
 use native.Mathlib.Omega.{arith}
 use Rattle.volume_valid.proofs.fills.Goals as goal
 

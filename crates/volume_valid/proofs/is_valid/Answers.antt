@@ -1,11 +1,9 @@
 use mathlib.Core.Path.{◌≡◌, sym, ◌∙◌}
 use mathlib.Core.Bool.{true}
 use lib.ListN.{length}
-use borrow.Author.Tests.{not-true, not-false}
 use Rattle.volume_spec.specs.Volume.{fills}
 use Rattle.volume_spec.proofs.Room.{index_within}
 use Rattle.volume_spec.proofs.Valid.{not_valid_lem, not_filled, not_adjoined, not_last, valid_by_day}
-use borrow.Author.Rules.{rules}
 use native.Mathlib.Omega.{arith}
 use Rattle.volume_valid.proofs.is_valid.Goals as goal
 

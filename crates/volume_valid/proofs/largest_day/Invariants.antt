@@ -1,10 +1,7 @@
-use mathlib.Core.Path.{◌≡◌, sym, ◌∙◌}
+use mathlib.Core.Path.{◌≡◌}
 use Prim.Native.Nat.{◌≤◌, ◌+◌, ◌*◌, max}
 use lib.ListN.{length}
 use Rattle.volume_spec.specs.Volume.{entries, largest_day}
-use Rattle.volume_spec.proofs.Entries.{entries_first}
-use borrow.Author.Rules.{rules}
-use native.Mathlib.Omega.{arith}
 use Rattle.volume_valid.proofs.largest_day.Given as goal
 
 -- the largest day is the largest so far or one of the entries that are left

@@ -1,7 +1,6 @@
 use Prim.Native.Nat.{◌+◌}
 use Rattle.octets.proofs.Bytes.{number_past}
 use Rattle.volume_spec.specs.Volume.{entry_at}
-use borrow.Author.Rules.{rules}
 use native.Mathlib.Omega.{arith}
 use Rattle.volume_valid.proofs.read_entry.Goals as goal
 

@@ -2,12 +2,11 @@ use mathlib.Core.Bool.{true}
 use mathlib.Core.Path.{◌≡◌, sym, ◌∙◌}
 use Prim.Native.Nat.{◌+◌, ◌≤◌}
 use lib.ListN.{length}
-use borrow.Author.Tests.{not-true, not-false, ltb-true, ltb-false}
+use borrow.Author.Tests.{ltb-true, ltb-false}
 use Rattle.volume_spec.specs.Volume.{trailer, valid, add, after_adding}
 use Rattle.volume_spec.proofs.Valid.{valid_has}
 use Rattle.volume_spec.proofs.Adding.{length-added}
 use Rattle.volume_spec.proofs.Writing.{written-refused, written_done, add_not_valid, add-set-back, add-short, add_enough}
-use borrow.Author.Rules.{rules}
 use native.Mathlib.Omega.{arith}
 use Rattle.volume_write.proofs.add.Goals as goal
 

@@ -1,6 +1,5 @@
 use Rattle.volume_spec.specs.Volume.{trailer_bytes}
 use Rattle.volume_spec.proofs.Writing.{written-refused, written_done, length_none, empty_short, empty_enough}
-use borrow.Author.Rules.{rules}
 use native.Mathlib.Omega.{arith}
 use Rattle.volume_write.proofs.empty.Goals as goal
 

@@ -2,7 +2,6 @@ use mathlib.Core.Path.{sym}
 use Prim.Native.Nat.{◌+◌}
 use borrow.Author.Tests.{lt-ltb}
 use Rattle.volume_spec.proofs.Room.{short-left}
-use borrow.Author.Rules.{rules}
 use native.Mathlib.Omega.{arith}
 use Rattle.volume_write.proofs.is_short.Goals as goal
 

@@ -3,7 +3,6 @@ use Prim.Native.Nat.{◌+◌, ◌*◌}
 use lib.ListN.{length}
 use Rattle.volume_spec.proofs.Valid.{valid_has, filled_by}
 use Rattle.volume_spec.proofs.Placing.{added-stored}
-use borrow.Author.Rules.{rules}
 use native.Mathlib.Omega.{arith}
 use Rattle.volume_write.proofs.store.Goals as goal
 

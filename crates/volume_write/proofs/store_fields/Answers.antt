@@ -2,7 +2,6 @@ use mathlib.Core.Path.{sym}
 use Rattle.octets.proofs.Bytes.{placed_not}
 use Rattle.volume_spec.proofs.Fields.{length_fields}
 use Rattle.volume_spec.proofs.Placing.{fields-stored}
-use borrow.Author.Rules.{rules}
 use native.Mathlib.Omega.{arith}
 use Rattle.volume_write.proofs.store_fields.Goals as goal
 

@@ -1,5 +1,4 @@
 use Rattle.aes.specs.Block.{decipher_is}
-use borrow.Author.Rules.{rules}
 use Rattle.aes.proofs.Block.decipher.Goals as goal
 
 pub returns : goal.returns

@@ -1,5 +1,4 @@
 use Rattle.aes.specs.Block.{encipher_is}
-use borrow.Author.Rules.{rules}
 use Rattle.aes.proofs.Block.encipher.Goals as goal
 
 pub returns : goal.returns

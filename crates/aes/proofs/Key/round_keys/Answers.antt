@@ -1,6 +1,5 @@
 use mathlib.Core.Path.{sym, ◌∙◌}
 use Rattle.aes.specs.Block.{round_keys_is}
-use borrow.Author.Rules.{rules}
 use Rattle.aes.proofs.Key.round_keys.Goals as goal
 
 pub returns : goal.returns

@@ -1,5 +1,4 @@
 use Rattle.scheme.specs.Machine.{mode_of}
-use borrow.Author.Rules.{rules}
 use Rattle.scheme.proofs.Scheme.mode.Goals as goal
 
 pub returns-in-Cenc : goal.returns-in-Cenc

@@ -1,6 +1,5 @@
 use mathlib.Core.Path.{sym, ◌∙◌}
 use Rattle.scheme.specs.Layout.{scheme_of}
-use borrow.Author.Rules.{rules}
 use Rattle.scheme.proofs.Scheme.of.Goals as goal
 
 pub returns-then-same : goal.returns-then-same
