@@ -31,8 +31,8 @@ help_asked() {
 
 # program NAME: its path, in `program`
 program() {
-    program=$home/target/bin/$1
-    [ -x "$program" ] || failed "$program is not built: 'rt check $1' in $home builds it"
+    program=$home/crates/$1/out/$1
+    [ -x "$program" ] || failed "$program is not built: 'tests/prove $1' in $home builds it"
 }
 
 # input WORD..: standard input is the file that the one word names, or stays if there is none or it is '-'
