@@ -1,7 +1,7 @@
 # What the scripts of this folder share. Each reads this file by its full name, and has a function `usage` that prints how to use
 # it.
 
-# A write to a closed pipe then fails and can be told; otherwise it would end the program without a word.
+# A write to a closed pipe then fails and can be told; otherwise it would end the script without a word.
 trap '' PIPE
 
 name=$(basename "$0")
