@@ -17,8 +17,8 @@ times:
 	@tests/times
 
 demo:
-	@echo 'Proving and building the programs feeder and sheet and the C interface. Where nothing is proved yet this takes'
-	@echo 'about four minutes on two cores:'
+	@echo 'Proving and building the programs feeder and sheet and the C interface. Where nothing is proved yet this takes some'
+	@echo 'minutes:'
 	@tests/prove feeder sheet
 	@tests/archive
 	@echo 'A file locked and opened in pieces, and the sheet of its box:'

@@ -1,4 +1,4 @@
-//! Links the archives that `rt staticlib` wrote.
+//! Links the archives that `rt lib` made.
 
 fn main() {
     println!("cargo:rerun-if-env-changed=RATTLE_ARCHIVES");

@@ -1,7 +1,7 @@
 # What the scripts of this folder share. Each reads this file by its full name, and has a function `usage` that prints how to use
 # it.
 
-# A write to a closed pipe then fails and can be told; otherwise it would end the program without a word.
+# A write to a closed pipe then fails and can be told; otherwise it would end the script without a word.
 trap '' PIPE
 
 name=$(basename "$0")
@@ -31,8 +31,8 @@ help_asked() {
 
 # program NAME: its path, in `program`
 program() {
-    program=$home/target/bin/$1
-    [ -x "$program" ] || failed "$program is not built: 'rt check $1' in $home builds it"
+    program=$home/crates/$1/out/$1
+    [ -x "$program" ] || failed "$program is not built: 'tests/prove $1' in $home builds it"
 }
 
 # input WORD..: standard input is the file that the one word names, or stays if there is none or it is '-'

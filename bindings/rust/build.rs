@@ -1,4 +1,4 @@
-//! Links the archive that `rt staticlib cenc` wrote.
+//! Links the archive that `rt lib` made of the crate cenc.
 
 fn main() {
     println!("cargo:rerun-if-env-changed=RATTLE_ARCHIVES");
