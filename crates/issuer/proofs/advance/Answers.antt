@@ -1,5 +1,4 @@
 use Rattle.issuer_spec.specs.Issuer.{advance}
-use borrow.Author.Rules.{rules}
 use Rattle.issuer.proofs.advance.Goals as goal
 
 pub returns-in-Eight : goal.returns-in-Eight

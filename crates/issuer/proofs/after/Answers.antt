@@ -1,6 +1,5 @@
 use borrow.Author.Tests.{eq-eqb, ne_eqb}
 use Rattle.issuer_spec.specs.Issuer.{largest, after}
-use borrow.Author.Rules.{rules}
 use Rattle.issuer.proofs.after.Goals as goal
 
 pub returns-then-last-eq18446744073709551615 : goal.returns-then-last-eq18446744073709551615

@@ -1,6 +1,5 @@
 use mathlib.Core.Path.{sym}
 use Rattle.octets.proofs.Bytes.{filled-list_of}
-use borrow.Author.Rules.{rules}
 use Rattle.issuer.proofs.first_eight.Goals as goal
 
 pub returns : goal.returns

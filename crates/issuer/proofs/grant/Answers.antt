@@ -3,7 +3,6 @@ use mathlib.Core.Path.{◌≡◌, sym, ◌∙◌}
 use Prim.Native.Nat.{◌≤◌, ◌<◌}
 use Rattle.issuer_spec.specs.Issuer.{largest, last_counter, bad_count}
 use Rattle.issuer_spec.proofs.Granting.{advance-some, count-some, grant-refused, grant-accepted, count-refused, used_up_lem, passes_largest, fits}
-use borrow.Author.Rules.{rules}
 use native.Mathlib.Omega.{arith}
 use Rattle.issuer.proofs.grant.Goals as goal
 

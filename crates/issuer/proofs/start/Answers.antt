@@ -3,7 +3,6 @@ use borrow.Author.Tests.{eq-eqb, ne_eqb}
 use Rattle.octets.specs.Answers.{answer}
 use Rattle.octets.proofs.Bytes.{filled_long}
 use Rattle.issuer_spec.specs.Issuer.{start_rows, started, start}
-use borrow.Author.Rules.{rules}
 use native.Mathlib.Omega.{arith}
 use Rattle.issuer.proofs.start.Goals as goal
 

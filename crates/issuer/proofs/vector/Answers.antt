@@ -1,5 +1,4 @@
 use Rattle.issuer_spec.specs.Issuer.{vector}
-use borrow.Author.Rules.{rules}
 use Rattle.issuer.proofs.vector.Goals as goal
 
 pub returns-in-Eight : goal.returns-in-Eight

@@ -1,5 +1,4 @@
 -- the place where the entries are written out
-use borrow.Author.Rules.{rules}
 use Rattle.part.proofs.cipher_part.Goals as goal
 
 pub sample_part-after-requires : goal.sample_part-after-requires

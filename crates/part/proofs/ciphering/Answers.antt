@@ -1,4 +1,3 @@
-use borrow.Author.Rules.{rules}
 use Rattle.part.proofs.ciphering.Goals as goal
 
 pub returns : goal.returns

@@ -2,10 +2,9 @@ use mathlib.Core.Bool.{true}
 use mathlib.Core.Path.{◌≡◌, sym, ◌∙◌}
 use Prim.Native.Nat.{◌+◌}
 use lib.Dec.{leb}
-use borrow.Author.Tests.{le-leb, lt-leb, leb-true, ne_eqb, eq-eqb, not-true, not-false}
+use borrow.Author.Tests.{le-leb, lt-leb, leb-true, ne_eqb, eq-eqb}
 use Rattle.subsample_spec.specs.Auxiliary.{longest}
 use Rattle.scheme.proofs.Fitting.{fits_is}
-use borrow.Author.Rules.{rules}
 use native.Mathlib.Omega.{arith}
 use Rattle.part.proofs.fits.Goals as goal
 

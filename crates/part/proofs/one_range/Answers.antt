@@ -1,6 +1,5 @@
 use mathlib.Core.Path.{refl}
 use Rattle.scheme.specs.Layout.{entries}
-use borrow.Author.Rules.{rules}
 use native.Mathlib.Omega.{arith}
 use Rattle.part.proofs.one_range.Goals as goal
 

@@ -1,9 +1,8 @@
 -- the places: a part that fits, of a protected track, and the start
 use mathlib.Core.Path.{sym, ap, ◌∙◌}
 use Rattle.scheme.specs.Machine.{Stepped}
-use borrow.Author.Tests.{ne_eqb, not-true, not-false}
+use borrow.Author.Tests.{ne_eqb}
 use Rattle.scheme.proofs.Fitting.{fits_length, fits_asks, transformed_fits, transformed_not, transformed_clear}
-use borrow.Author.Rules.{rules}
 use Rattle.part.proofs.transform.Goals as goal
 
 pub returns-then-parameters-ne1 : goal.returns-then-parameters-ne1

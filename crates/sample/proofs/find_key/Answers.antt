@@ -2,11 +2,10 @@
 use mathlib.Core.Bool.{true, false}
 use mathlib.Core.Path.{◌≡◌, sym, ◌∙◌}
 use lib.ListN.{length, take}
-use borrow.Author.Tests.{eq-eqb, ne_eqb, not-true, not-false}
+use borrow.Author.Tests.{eq-eqb, ne_eqb}
 use Rattle.octets.specs.Answers.{answer}
 use Rattle.octets.specs.Bytes.{same}
 use Rattle.sample_spec.specs.Sample.{key_rows, key_in, find_key}
-use borrow.Author.Rules.{rules}
 use Rattle.sample.proofs.find_key.Goals as goal
 
 pub returns-then-parameters-ne1 : goal.returns-then-parameters-ne1

@@ -2,7 +2,6 @@
 use mathlib.Core.Path.{sym, ◌∙◌}
 use Rattle.sample_spec.specs.Sample.{Inputs, inputs, OfBytes}
 use Rattle.sample_spec.proofs.Accepted.{inputs-answer, after-refused, after_done}
-use borrow.Author.Rules.{rules}
 use native.Mathlib.Omega.{arith}
 use Rattle.sample.proofs.process.Goals as goal
 

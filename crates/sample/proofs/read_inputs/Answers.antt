@@ -2,7 +2,6 @@
 use mathlib.Core.Path.{sym, ◌∙◌}
 use Rattle.sample_spec.specs.Sample.{Inputs, inputs}
 use Rattle.sample_spec.proofs.Tables.{refused_box, refused_key, refused_data, read_done}
-use borrow.Author.Rules.{rules}
 use Rattle.sample.proofs.read_inputs.Goals as goal
 
 pub returns-then-track-ne-DONE : goal.returns-then-track-ne-DONE

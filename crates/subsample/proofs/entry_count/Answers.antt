@@ -1,6 +1,5 @@
 use mathlib.Core.Path.{sym, ◌∙◌}
 use Rattle.subsample_spec.specs.Auxiliary.{entry_count}
-use borrow.Author.Rules.{rules}
 use Rattle.subsample.proofs.entry_count.Goals as goal
 
 pub returns-then-written : goal.returns-then-written

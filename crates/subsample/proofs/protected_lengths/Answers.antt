@@ -1,7 +1,4 @@
-use Prim.Native.Nat.{◌+◌, ◌-◌, ◌*◌}
-use Rattle.octets.specs.Bytes.{number}
-use Rattle.subsample_spec.proofs.Counting.{Taken, taken_none, taken_next, taken_all}
-use borrow.Author.Rules.{rules}
+use Rattle.subsample_spec.proofs.Counting.{taken_none, taken_next, taken_all}
 use Rattle.subsample.proofs.protected_lengths.Goals as goal
 
 pub loop-i-init : goal.loop-i-init

@@ -1,7 +1,6 @@
 use Prim.Native.Nat.{◌+◌, ◌-◌, ◌*◌}
 use Rattle.octets.specs.Bytes.{number}
-use Rattle.subsample_spec.proofs.Counting.{Taken, taken_none, taken_next, taken_all}
-use borrow.Author.Rules.{rules}
+use Rattle.subsample_spec.proofs.Counting.{Taken}
 use Rattle.subsample.proofs.protected_lengths.Given as goal
 
 abbrev pub invariant-loop-i : goal.invariant-loop-i

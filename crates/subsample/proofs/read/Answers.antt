@@ -4,7 +4,6 @@ use Rattle.track_spec.specs.declared.BoxRead.{BoxRead}
 use Rattle.track_spec.specs.Track.{read_rows}
 use Rattle.subsample_spec.specs.Auxiliary.{read_under}
 use Rattle.subsample_spec.proofs.Tables.{box_refused, box_accepted, box_answer}
-use borrow.Author.Rules.{rules}
 use Rattle.subsample.proofs.read.Goals as goal
 
 pub returns-then-track-ne-DONE : goal.returns-then-track-ne-DONE

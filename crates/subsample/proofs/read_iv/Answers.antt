@@ -3,7 +3,6 @@ use Prim.Native.Nat.{ℕ, ◌-◌}
 use lib.ListN.{take}
 use Rattle.octets.specs.Bytes.{filled}
 use Rattle.subsample_spec.specs.Auxiliary.{iv_length, iv_read}
-use borrow.Author.Rules.{rules}
 use native.Mathlib.Omega.{arith}
 use Rattle.subsample.proofs.read_iv.Goals as goal
 

@@ -1,5 +1,4 @@
 use Rattle.subsample_spec.specs.Auxiliary.{map_read}
-use borrow.Author.Rules.{rules}
 use Rattle.subsample.proofs.read_map.Goals as goal
 
 pub returns : goal.returns

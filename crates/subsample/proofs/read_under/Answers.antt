@@ -6,7 +6,6 @@ use Rattle.octets.specs.Answers.{answer}
 use Rattle.subsample_spec.specs.declared.SubsampleMap.{SubsampleMap}
 use Rattle.subsample_spec.specs.Auxiliary.{limit, longest, bad_size, map_rows, entry_count, map_read, auxiliary_rows, handed_out, read_under}
 use Rattle.subsample_spec.proofs.Tables.{size_iv}
-use borrow.Author.Rules.{rules}
 use native.Mathlib.Omega.{arith}
 use Rattle.subsample.proofs.read_under.Goals as goal
 

@@ -1,5 +1,4 @@
 use borrow.Author.Tests.{eq-eqb, ne_eqb}
-use borrow.Author.Rules.{rules}
 use Rattle.subsample.proofs.written.Goals as goal
 
 pub returns-then-p-ne1 : goal.returns-then-p-ne1

@@ -4,7 +4,6 @@ use native.Mathlib.Nat.{mod-le}
 use native.Mathlib.Omega.{arith}
 use Rattle.scheme.specs.Layout.{period}
 use Rattle.scheme.proofs.Runs.{run_last, run_every, pattern_crypt, pattern_skip, in_both}
-use borrow.Author.Rules.{rules}
 use Rattle.part.proofs.runs.pattern_run.Goals as goal
 
 pub whole_run-requires : goal.whole_run-requires

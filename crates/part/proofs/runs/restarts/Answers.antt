@@ -1,5 +1,4 @@
 use Rattle.scheme.specs.Layout.{restarts}
-use borrow.Author.Rules.{rules}
 use Rattle.part.proofs.runs.restarts.Goals as goal
 
 pub returns-in-Cenc : goal.returns-in-Cenc

@@ -1,5 +1,4 @@
 use Rattle.scheme.proofs.Runs.{run_cenc}
-use borrow.Author.Rules.{rules}
 use Rattle.part.proofs.runs.run_at.Goals as goal
 
 pub pattern_run-requires : goal.pattern_run-requires

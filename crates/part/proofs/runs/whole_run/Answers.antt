@@ -1,5 +1,4 @@
 use Rattle.scheme.proofs.Runs.{run_whole, run_last1}
-use borrow.Author.Rules.{rules}
 use Rattle.part.proofs.runs.whole_run.Goals as goal
 
 pub returns-then-o-whole : goal.returns-then-o-whole

@@ -1,6 +1,5 @@
 use Rattle.aes.specs.Block.{encipher, decipher}
 use Rattle.scheme.proofs.EntryParts.{entry-asked, entry_turned}
-use borrow.Author.Rules.{rules}
 use Rattle.part.proofs.walk.entry_part.Goals as goal
 
 pub range_part-requires : goal.range_part-requires

@@ -1,9 +1,7 @@
-use Prim.Native.Nat.{◌-◌, ◌<◌}
+use Prim.Native.Nat.{◌<◌}
 use lib.ListN.{length}
 use Rattle.octets.proofs.Fill.{fill_length}
-use Rattle.aes.specs.Block.{encipher, decipher}
-use Rattle.scheme.proofs.Ranges.{Ranged, range_start, range_asked, range_kept, range_turned, range_end}
-use borrow.Author.Rules.{rules}
+use Rattle.scheme.proofs.Ranges.{range_start, range_asked, range_kept, range_turned, range_end}
 use native.Mathlib.Omega.{arith}
 use Rattle.part.proofs.walk.range_part.Goals as goal
 

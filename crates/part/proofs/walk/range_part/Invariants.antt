@@ -1,10 +1,7 @@
-use Prim.Native.Nat.{◌-◌, ◌<◌}
+use Prim.Native.Nat.{◌-◌}
 use lib.ListN.{length}
-use Rattle.octets.proofs.Fill.{fill_length}
 use Rattle.aes.specs.Block.{encipher, decipher}
-use Rattle.scheme.proofs.Ranges.{Ranged, range_start, range_asked, range_kept, range_turned, range_end}
-use borrow.Author.Rules.{rules}
-use native.Mathlib.Omega.{arith}
+use Rattle.scheme.proofs.Ranges.{Ranged}
 use Rattle.part.proofs.walk.range_part.Given as goal
 
 abbrev pub invariant-loop-at : goal.invariant-loop-at

@@ -1,14 +1,13 @@
 use mathlib.Core.List.{◌∷◌}
 use mathlib.Core.Path.{◌≡◌}
-use Prim.Native.Nat.{◌+◌, ◌-◌, ◌<◌}
+use Prim.Native.Nat.{◌+◌, ◌<◌}
 use mir.Val.{Fits}
 use mir.Syntax.{w16, w32}
 use lib.ListN.{length, get_or, drop}
 use Rattle.octets.proofs.Fill.{fill_length}
-use Rattle.aes.specs.Block.{encipher, decipher}
 use Rattle.subsample_spec.specs.Auxiliary.{limit}
 use Rattle.scheme.specs.Layout.{entry, entries}
-use Rattle.scheme.proofs.SampleParts.{Walked, walk_start, walk_entry, walk_asks, walk_turned, walk_skipped, walk_end, entry_next}
+use Rattle.scheme.proofs.SampleParts.{walk_start, walk_entry, walk_asks, walk_turned, walk_skipped, walk_end, entry_next}
 use borrow.Author.Rules.{rules}
 use native.Mathlib.Omega.{arith}
 use Rattle.part.proofs.walk.sample_part.Goals as goal

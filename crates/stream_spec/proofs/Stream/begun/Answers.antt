@@ -1,4 +1,3 @@
-use borrow.Author.Rules.{rules}
 use Rattle.stream_spec.proofs.Stream.begun.Goals as goal
 
 pub returns : goal.returns

@@ -1,4 +1,3 @@
-use borrow.Author.Rules.{rules}
 use Rattle.stream_spec.proofs.Stream.idle.Goals as goal
 
 pub returns : goal.returns
