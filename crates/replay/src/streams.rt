@@ -116,6 +116,7 @@ fn reply(
 
 // The reply to each word of a line from one on, then the record.
 fn replies(
+    to: &impl Print,
     start: Stream,
     line: &[u8],
     first: usize,
@@ -132,10 +133,10 @@ fn replies(
     while from < line.len() {
         let word = text::word_at(line, from, b' ');
         let start = word.start;
-        let to = word.end;
-        from = to + 1;
-        end = output::make_room(out, end);
-        let replied = reply(stream, &line[start..to], &mut piece, lent, out, end);
+        let past = word.end;
+        from = past + 1;
+        end = output::make_room(to, out, end);
+        let replied = reply(stream, &line[start..past], &mut piece, lent, out, end);
         let next = replied.stream;
         stream = next;
         end = replied.end;
@@ -145,6 +146,7 @@ fn replies(
 
 // `stream DIRECTION CODE BOX AUX KEYS LENGTH CALL..`, answered by the start's answer, the replies and the record.
 pub(crate) fn started(
+    to: &impl Print,
     line: &[u8],
     bytes: &[u8],
     ends: Ends,
@@ -157,7 +159,15 @@ pub(crate) fn started(
     let started = start(line, bytes, ends);
     let stream = started.stream;
     let at = output::number_then(started.answer as u64, b' ', out, at);
-    replies(stream, line, text::word_start(line, 7, b' '), lent, out, at)
+    replies(
+        to,
+        stream,
+        line,
+        text::word_start(line, 7, b' '),
+        lent,
+        out,
+        at,
+    )
 }
 
 fn start(line: &[u8], bytes: &[u8], ends: Ends) -> Started {
@@ -233,6 +243,7 @@ fn progress(line: &[u8], bytes: &[u8], ends: Ends) -> Progress {
 
 // `record RECORD CALL..`, answered by the replies and the record.
 pub(crate) fn given(
+    to: &impl Print,
     line: &[u8],
     bytes: &[u8],
     ends: Ends,
@@ -247,6 +258,7 @@ pub(crate) fn given(
         progress: progress(line, bytes, ends),
     };
     replies(
+        to,
         stream,
         line,
         text::word_start(line, 17, b' '),
