@@ -45,9 +45,11 @@ fn is_there(env: &impl Env, place: usize) -> bool {
     !matches!(env.arg(place, &mut [0; 1]), Err(FillError::NotPresent))
 }
 
-// Whether there are so many words and one more, the program's own name.
-fn is_count(env: &impl Env, count: usize) -> bool {
-    is_there(env, count) && !is_there(env, count + 1)
+// Whether a place is that of the last word.
+fn is_last(env: &impl Env, place: usize) -> bool
+    requires { place ≤ 9 }
+{
+    is_there(env, place) && !is_there(env, place + 1)
 }
 
 // `lock` or `open`.
@@ -108,7 +110,7 @@ pub(crate) fn shown<'a>(name: &'a [u8], standard: &'a [u8]) -> &'a [u8] {
 // Whether there are as many words as there should be: a length is declared exactly for standard input.
 pub(crate) fn are_complete(env: &impl Env, input: &[u8]) -> bool {
     if is_standard(input) {
-        return is_count(env, LENGTH) && declared_length(env).good;
+        return is_last(env, LENGTH) && declared_length(env).good;
     }
-    is_count(env, OUT)
+    is_last(env, OUT)
 }
