@@ -2,7 +2,7 @@
 ghost use Rattle.std.specs.Prelude.{◌≤◌, length};
 
 use crate::line::Ends;
-use crate::{boxes, issuers, line, samples, streams, volumes};
+use crate::{issuers, line, samples, streams, track_boxes, volumes};
 use modes::Direction;
 
 // The row that a line is of, counted from 0; as many as there are if it is of none.
@@ -55,8 +55,8 @@ fn answer_by(
     requires { 65536 ≤ length lent.old }
 {
     match row {
-        0 => boxes::read(bytes, ends, out, at),
-        1 => boxes::write(line, bytes, ends, lent, out, at),
+        0 => track_boxes::read(bytes, ends, out, at),
+        1 => track_boxes::write(line, bytes, ends, lent, out, at),
         2 => samples::auxiliary(line, bytes, ends, out, at),
         3 => samples::whole(Direction::Lock, line, bytes, ends, lent, out, at),
         4 => samples::whole(Direction::Open, line, bytes, ends, lent, out, at),

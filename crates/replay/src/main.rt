@@ -2,13 +2,13 @@
 // and at the end how many lines were malformed, if any were.
 #![tactic(auto)]
 
-mod boxes;
 mod calls;
 mod issuers;
 mod line;
 mod output;
 mod samples;
 mod streams;
+mod track_boxes;
 mod volumes;
 
 use output::Buffer;

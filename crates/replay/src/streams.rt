@@ -2,7 +2,7 @@
 ghost use Rattle.std.specs.Prelude.{◌≤◌, length};
 
 use crate::line::Ends;
-use crate::{boxes, line, output, samples};
+use crate::{line, output, samples, track_boxes};
 use aes::Key;
 use modes::{Direction, ModeBlock};
 use stream::{Declared, Progress, Started, Stream};
@@ -25,7 +25,7 @@ fn put_parameters(
 ) -> usize {
     let at = put_direction(direction, out, at);
     let at = text::put(b" [", out, at);
-    let at = boxes::put_parameters(parameters, out, at);
+    let at = track_boxes::put_parameters(parameters, out, at);
     text::put(b"] ", out, at)
 }
 
@@ -224,7 +224,7 @@ fn declared(line: &[u8], bytes: &[u8], ends: Ends) -> Declared {
     let count = text::number_at(line, 10, b' ', u64::MAX) as usize;
     Declared {
         direction: line::direction(line),
-        parameters: boxes::parameters(line, bytes, ends, code, version, crypt, skip),
+        parameters: track_boxes::parameters(line, bytes, ends, code, version, crypt, skip),
         length: text::number_at(line, 9, b' ', u64::MAX) as usize,
         map: map(count, text::word(line, 11, b' ')),
         key: Key::new(octets::sixteen(line::bytes(bytes, ends, 13))),
