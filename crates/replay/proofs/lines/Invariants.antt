@@ -1,4 +1,4 @@
-use Rattle.std.proofs.Common.{length, ◌-◌, ◌≤◌, ◌≡◌, ◌+◌}
+use Rattle.std.proofs.Common.{length, ◌-◌}
 use Rattle.replay.proofs.lines.Given as goal
 
 abbrev pub decreases-loop-start : goal.decreases-loop-start
