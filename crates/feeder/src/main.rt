@@ -2,8 +2,8 @@
 //
 //     feeder lock|open SCHEME BOX AUX KEYS PIECE IN OUT [LENGTH]
 //
-// A line on standard output tells how it went, for a Rattle program has no exit status of its own; standard error has the
-// system's reason for a failure. After `done N` the N bytes of OUT have reached its device; after any other line OUT is as
+// A line on standard output tells how it went, and the exit status is 0 whatever it says; standard error has the system's
+// reason for a failure. After `done N` the N bytes of OUT have reached its device; after any other line OUT is as
 // it was before. IN is `-` for standard input, whose length is then declared by LENGTH, and OUT is `-` for standard output; the line is
 // then on standard error, and what was written before a failure has gone out.
 #![tactic(auto)]
