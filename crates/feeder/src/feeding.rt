@@ -2,6 +2,8 @@
 ghost use Rattle.std.specs.Prelude.{◌≤◌, length};
 
 use crate::files;
+use std::io;
+use std::io::{Read, Write};
 use stream::Stream;
 use subsample::SubsampleMap;
 use track::refusal::DONE;
@@ -16,9 +18,9 @@ pub const OUTPUT: usize = PIECE + Stream::MOST_HELD;
 pub enum Ending {
     Done,
     Refused(u8),
-    Unread,
+    Unread(io::Error),
     Early,
-    Unwritten,
+    Unwritten(io::Error),
 }
 
 // How feeding ended, and how many bytes were written.
@@ -63,7 +65,7 @@ fn end(stream: Stream) -> Ending {
 }
 
 // Feeds a piece and writes what it releases.
-fn feed_piece(stream: Stream, piece: &[u8], out: &mut [u8], output: i32) -> Turn
+fn feed_piece(stream: Stream, piece: &[u8], out: &mut [u8], output: &mut impl Write) -> Turn
     ensures { result.written ≤ length out.old }
 {
     let fed = in_place::feed_lent(stream, piece, out);
@@ -72,8 +74,8 @@ fn feed_piece(stream: Stream, piece: &[u8], out: &mut [u8], output: i32) -> Turn
     if fed.answer != DONE {
         return Turn::last(Ending::Refused(fed.answer), next);
     }
-    if !io::write_all(output, &out[0..released]) {
-        return Turn::last(Ending::Unwritten, next);
+    if let Err(error) = output.write_all(&out[0..released]) {
+        return Turn::last(Ending::Unwritten(error), next);
     }
     Turn {
         more: true,
@@ -89,17 +91,16 @@ fn take_turn(
     size: usize,
     piece: &mut [u8],
     out: &mut [u8],
-    input: i32,
-    output: i32,
+    input: &mut impl Read,
+    output: &mut impl Write,
 ) -> Turn
     requires { size ≤ length piece.old }
     ensures { result.written ≤ length out.old }
 {
-    let read = files::fill(input, &mut piece[0..size]);
-    if !read.good {
-        return Turn::last(Ending::Unread, stream);
-    }
-    let count = read.count;
+    let count = match files::fill(input, &mut piece[0..size]) {
+        Ok(count) => count,
+        Err(error) => return Turn::last(Ending::Unread(error), stream),
+    };
     if count == 0 {
         return Turn::last(end(stream), stream);
     }
@@ -113,8 +114,8 @@ pub(crate) fn feed_all(
     size: usize,
     piece: &mut [u8; PIECE],
     out: &mut [u8; OUTPUT],
-    input: i32,
-    output: i32,
+    input: &mut impl Read,
+    output: &mut impl Write,
 ) -> Fed
     requires { size ≤ 65536 }
 {

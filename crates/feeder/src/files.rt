@@ -1,171 +1,118 @@
 // Files. What fails is told, but for an open file's reading and writing.
-ghost use Rattle.std.specs.Prelude.{◌≤◌, length as length_of};
+ghost use Rattle.std.specs.Prelude.{◌≤◌, length as length_of, IfOk, IfSome};
 
 use crate::{arguments, tell};
-use libc::{STDIN_FILENO, STDOUT_FILENO};
+use std::fs::{OpenFile, OpenOptions};
+use std::io::{ErrorKind, Read, Seek, SeekFrom};
+use std::rt::{Env, Files};
+use std::{fs, io};
 
 // The most bytes of a box, of auxiliary data and of a key record.
 pub const LONGEST: usize = 4096;
 
-// A number of bytes, if it could be had.
-#[derive(Drop)]
-pub struct Bytes {
-    pub good: bool,
-    pub count: usize,
-}
-
-impl Bytes {
-    const FAILED: Bytes = Bytes {
-        good: false,
-        count: 0,
-    };
-}
-
-// Reads once.
-fn read_once(file: i32, buffer: &mut [u8]) -> Bytes
-    ensures { result.count ≤ length_of buffer.old }
-{
-    let got = libc::read(file, buffer);
-    Bytes {
-        good: 0 <= got,
-        count: io::count(got, buffer),
-    }
-}
-
-// Reads until the buffer is full or the file ends.
-pub(crate) fn fill(file: i32, buffer: &mut [u8]) -> Bytes
-    ensures { result.count ≤ length_of buffer.old }
+// Reads until the buffer is full or the file ends, and answers how many bytes it read.
+pub(crate) fn fill(file: &mut impl Read, buffer: &mut [u8]) -> io::Result<usize>
+    ensures { IfOk result (λ count. count ≤ length_of buffer.old) }
 {
     let mut count = 0;
     while count < buffer.len() {
-        let read = read_once(file, &mut buffer[count..]);
-        if !read.good {
-            return Bytes::FAILED;
-        }
-        if read.count == 0 {
+        let read = file.read(&mut buffer[count..])?;
+        if read == 0 {
             break;
         }
-        count += read.count;
+        count += read;
     }
-    Bytes { good: true, count }
+    Ok(count)
 }
 
-// Opens a file for reading, and answers its number, or one below 0.
-fn open(name: &[u8]) -> i32 {
-    let file = os::open_read(name);
-    if file < 0 {
-        tell::cannot(b"read", name);
-    }
-    file
+// A name as std takes it.
+fn path(name: &[u8]) -> io::Result<&str> {
+    str::from_utf8(name).map_err(|_| io::Error::new(
+        ErrorKind::InvalidInput,
+        "the name is not UTF-8",
+    ))
 }
 
-// The same of a sample, which may be standard input.
-pub(crate) fn open_sample(name: &[u8]) -> i32 {
-    if arguments::is_standard(name) {
-        return STDIN_FILENO;
-    }
-    open(name)
+// Opens a file for reading.
+fn open<R: Files>(rt: &R, name: &[u8]) -> io::Result<R::File> {
+    fs::open(rt, path(name)?)
+}
+
+// Opens a sample that is a file, and answers its length too.
+pub(crate) fn open_sample<R: Files>(rt: &R, name: &[u8]) -> io::Result<(R::File, usize)> {
+    let mut file = open(rt, name)?;
+    let length = length(&mut file)?;
+    Ok((file, length))
 }
 
 // Reads a short file whole, into a buffer with room for a byte more.
-fn read_whole(name: &[u8], buffer: &mut [u8]) -> Bytes
-    ensures { result.count ≤ length_of buffer.old }
+fn read_whole<R: Files>(rt: &R, name: &[u8], buffer: &mut [u8]) -> io::Result<usize>
+    ensures { IfOk result (λ count. count ≤ length_of buffer.old) }
 {
-    let file = open(name);
-    if file < 0 {
-        return Bytes::FAILED;
-    }
-    let read = fill(file, buffer);
-    if !read.good {
-        tell::cannot(b"read", name);
-    }
-    libc::close(file);
-    if LONGEST < read.count {
-        tell::about(name, b"is longer than 4096 bytes");
-        return Bytes::FAILED;
-    }
-    read
+    let mut file = open(rt, name)?;
+    fill(&mut file, buffer)
 }
 
-// The same of the file that an argument names.
-pub(crate) fn contents(place: usize, buffer: &mut [u8]) -> Bytes
-    ensures { result.count ≤ length_of buffer.old }
+// The same of the file that an argument names. None if it could not be read or is too long.
+pub(crate) fn contents<R: Files + Env + Print + Eprint>(
+    rt: &R,
+    place: usize,
+    buffer: &mut [u8],
+) -> Option<usize>
+    ensures { IfSome result (λ count. count ≤ length_of buffer.old) }
 {
-    let mut name = io::buffer();
-    let length = arguments::word(place, &mut name);
-    read_whole(&name[0..length], buffer)
-}
-
-fn unsigned(n: i64) -> usize {
-    if n > 0 { n as usize } else { 0 }
+    let mut name = [0u8; arguments::ROOM];
+    let end = arguments::word(rt, place, &mut name);
+    let name = &name[0..end];
+    match read_whole(rt, name, buffer) {
+        Ok(count) => {
+            if LONGEST < count {
+                tell::about(rt, name, "is longer than 4096 bytes");
+                return None;
+            }
+            Some(count)
+        }
+        Err(error) => {
+            tell::cannot(rt, "read", name, error);
+            None
+        }
+    }
 }
 
 // The length of an open file whose reading has not begun. A folder fails at the first reading.
-fn length_of(file: i32) -> Bytes {
-    if libc::read(file, &mut [0; 0]) < 0 {
-        return Bytes::FAILED;
-    }
-    let end = libc::lseek(file, 0, libc::SEEK_END);
-    if end < 0 {
-        return Bytes::FAILED;
-    }
-    Bytes {
-        good: libc::lseek(file, 0, libc::SEEK_SET) == 0,
-        count: unsigned(end),
+fn length(file: &mut (impl Read + Seek)) -> io::Result<usize> {
+    file.read(&mut [])?;
+    let end = file.seek(SeekFrom::End(0))?;
+    file.seek(SeekFrom::Start(0))?;
+    Ok(end as usize)
+}
+
+// Makes a file for writing, if none is there.
+pub(crate) fn create<R: Files>(rt: &R, name: &[u8]) -> io::Result<R::File> {
+    OpenOptions::new()
+        .write(true)
+        .create_new(true)
+        .open(rt, path(name)?)
+}
+
+// Closes a file that was written, once its bytes have reached the device; answers whether they have.
+pub(crate) fn finish<R: Files + Env + Print + Eprint>(rt: &R, file: R::File, name: &[u8]) -> bool {
+    match file.sync_all() {
+        Ok(()) => true,
+        Err(error) => {
+            tell::cannot(rt, "write", name, error);
+            false
+        }
     }
 }
 
-// The length of an open sample: that of the file, or the one declared for standard input.
-pub(crate) fn length(file: i32, name: &[u8]) -> Bytes {
-    if arguments::is_standard(name) {
-        return Bytes {
-            good: true,
-            count: arguments::declared_length().value as usize,
-        };
+// Removes a file.
+pub(crate) fn remove<R: Files + Env + Print + Eprint>(rt: &R, name: &[u8]) {
+    if let Err(error) = remove_named(rt, name) {
+        tell::cannot(rt, "remove", name, error);
     }
-    length_of(file)
 }
 
-// Makes a file for writing, and answers its number, or one below 0. Standard output is there.
-pub(crate) fn create(name: &[u8]) -> i32 {
-    if arguments::is_standard(name) {
-        return STDOUT_FILENO;
-    }
-    let file = os::create(name);
-    if file < 0 {
-        tell::cannot(b"create", name);
-    }
-    file
-}
-
-// Closes a file that was written, and answers whether its bytes have reached the device, if that is asked. What was written to
-// standard output has gone out.
-pub(crate) fn finish(file: i32, asked: bool, name: &[u8]) -> bool {
-    if arguments::is_standard(name) {
-        return asked;
-    }
-    if !asked {
-        libc::close(file);
-        return false;
-    }
-    if libc::fsync(file) < 0 {
-        tell::cannot(b"write", name);
-        libc::close(file);
-        return false;
-    }
-    if libc::close(file) < 0 {
-        tell::cannot(b"write", name);
-        return false;
-    }
-    true
-}
-
-// Removes a file. What has gone out to standard output stays there.
-pub(crate) fn remove(name: &[u8]) {
-    if arguments::is_standard(name) {
-        return;
-    }
-    if os::unlink(name) < 0 {
-        tell::cannot(b"remove", name);
-    }
+fn remove_named(files: &impl Files, name: &[u8]) -> io::Result<()> {
+    fs::remove_file(files, path(name)?)
 }

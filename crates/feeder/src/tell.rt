@@ -1,64 +1,95 @@
-// Lines that tell how it went: on standard output, unless that takes the sample, then on standard error.
+// Lines that tell how it went: on standard output, unless that takes the sample, then on standard error. A line that cannot be
+// written is lost, but for the last, `done N`.
 use crate::{arguments, refusals};
-use libc::{STDERR_FILENO, STDOUT_FILENO};
+use std::fmt::{Display, Formatter};
+use std::io::Write;
+use std::rt::Env;
+use std::{fmt, io};
 
-// Where lines go.
-fn file() -> i32 {
-    let mut name = io::buffer();
-    let length = arguments::word(arguments::OUT, &mut name);
-    if arguments::is_standard(&name[0..length]) {
-        return STDERR_FILENO;
+// A name as it is told: what is no UTF-8 in it as U+FFFD.
+#[derive(Clone, Copy)]
+struct Name<'a>(&'a [u8]);
+
+impl Display for Name<'_> {
+    fn fmt<W: fmt::Write>(&self, f: &mut Formatter<W>) -> fmt::Result {
+        for chunk in self.0.utf8_chunks() {
+            f.write_str(chunk.valid())?;
+            if !chunk.invalid().is_empty() {
+                f.write_str("\u{fffd}")?;
+            }
+        }
+        Ok(())
     }
-    STDOUT_FILENO
 }
 
-pub(crate) fn usage() {
-    io::write_all(
-        file(),
-        b"usage: feeder lock|open SCHEME BOX AUX KEYS PIECE IN OUT [LENGTH], with a PIECE of 1 to 65536 bytes; - is standard output, or standard input of LENGTH bytes\n",
+// A failure's reason, in the system's words alone: without the number that std puts after them.
+fn reason<'a>(error: io::Error, text: &'a mut [u8; 256]) -> &'a str {
+    let mut rest = &mut text[..];
+    let _ = write!(rest, "{error}\0");
+    let end = text::word_at(text, 0, 0).end;
+    let words = str::from_utf8(&text[..end]).unwrap_or("");
+    match words.split_once(" (os error ") {
+        Some((reason, _)) => reason,
+        None => words,
+    }
+}
+
+// A failure's reason, on standard error.
+fn fail(to: &impl Eprint, name: &[u8], error: io::Error) {
+    let name = Name(name);
+    let mut text = [0u8; 256];
+    let reason = reason(error, &mut text);
+    let _ = eprintln!(to; "{name}: {reason}");
+}
+
+// Whether standard output takes the sample.
+fn is_output_taken(env: &impl Env) -> bool {
+    let mut name = [0u8; arguments::ROOM];
+    let length = arguments::word(env, arguments::OUT, &mut name);
+    arguments::is_standard(&name[0..length])
+}
+
+fn line<R: Env + Print + Eprint, T: Display + Drop>(rt: &R, text: T) -> io::Result<()> {
+    if is_output_taken(rt) {
+        rt.eprintln(text)
+    } else {
+        rt.println(text)
+    }
+}
+
+pub(crate) fn usage<R: Env + Print + Eprint>(rt: &R) {
+    let _ = line(
+        rt,
+        "usage: feeder lock|open SCHEME BOX AUX KEYS PIECE IN OUT [LENGTH], with a PIECE of 1 to 65536 bytes; - is standard output, or standard input of LENGTH bytes",
     );
 }
 
 // `done N`; answers whether it was written.
-pub(crate) fn done(written: u64) -> bool {
-    let to = file();
-    if io::write_all(to, b"done ") {
-        if io::print_decimal(to, written) {
-            if io::write_all(to, b"\n") {
-                return true;
-            }
+pub(crate) fn done<R: Env + Print + Eprint>(rt: &R, written: u64) -> bool {
+    match line(rt, format_args!("done {written}")) {
+        Ok(()) => true,
+        Err(error) => {
+            fail(rt, b"standard output", error);
+            false
         }
     }
-    os::fail(b"standard output");
-    false
 }
 
 // `refused ANSWER: WORDS`.
-pub(crate) fn refused(answer: u8) {
-    let to = file();
-    io::write_all(to, b"refused ");
-    io::print_decimal(to, answer as u64);
-    io::write_all(to, b": ");
-    refusals::write_words(to, answer);
-    io::write_all(to, b"\n");
+pub(crate) fn refused<R: Env + Print + Eprint>(rt: &R, answer: u8) {
+    let words = refusals::words(answer);
+    let _ = line(rt, format_args!("refused {answer}: {words}"));
 }
 
-// `cannot VERB NAME`, just after the call that failed; its reason goes to standard error.
-pub(crate) fn cannot(verb: &[u8], name: &[u8]) {
-    os::fail(name);
-    let to = file();
-    io::write_all(to, b"cannot ");
-    io::write_all(to, verb);
-    io::write_all(to, b" ");
-    io::write_all(to, name);
-    io::write_all(to, b"\n");
+// `cannot VERB NAME`, for a call that failed; its reason goes to standard error.
+pub(crate) fn cannot<R: Env + Print + Eprint>(rt: &R, verb: &str, name: &[u8], error: io::Error) {
+    fail(rt, name, error);
+    let name = Name(name);
+    let _ = line(rt, format_args!("cannot {verb} {name}"));
 }
 
 // `NAME WHAT`.
-pub(crate) fn about(name: &[u8], what: &[u8]) {
-    let to = file();
-    io::write_all(to, name);
-    io::write_all(to, b" ");
-    io::write_all(to, what);
-    io::write_all(to, b"\n");
+pub(crate) fn about<R: Env + Print + Eprint>(rt: &R, name: &[u8], what: &str) {
+    let name = Name(name);
+    let _ = line(rt, format_args!("{name} {what}"));
 }

@@ -2,7 +2,7 @@
 ghost use Rattle.std.specs.Prelude.{◌≤◌, length};
 
 use crate::line::Ends;
-use crate::{boxes, issuers, line, samples, streams, volumes};
+use crate::{issuers, line, samples, streams, track_boxes, volumes};
 use modes::Direction;
 
 // The row that a line is of, counted from 0; as many as there are if it is of none.
@@ -34,15 +34,16 @@ pub(crate) fn row_of(line: &[u8]) -> usize {
 }
 
 // Answers a line.
-pub(crate) fn answer(row: usize, line: &[u8], out: &mut [u8], at: usize) -> usize {
+pub(crate) fn answer(to: &impl Print, row: usize, line: &[u8], out: &mut [u8], at: usize) -> usize {
     let mut bytes = [0u8; line::BYTES];
     let mut lent = [0u8; line::BYTES];
     let ends = line::decode(line, &mut bytes);
-    answer_by(row, line, &bytes, ends, &mut lent, out, at)
+    answer_by(to, row, line, &bytes, ends, &mut lent, out, at)
 }
 
 // By its row. The bytes of its words are at hand, and what a call writes goes to `lent`.
 fn answer_by(
+    to: &impl Print,
     row: usize,
     line: &[u8],
     bytes: &[u8],
@@ -54,14 +55,14 @@ fn answer_by(
     requires { 65536 ≤ length lent.old }
 {
     match row {
-        0 => boxes::read(bytes, ends, out, at),
-        1 => boxes::write(line, bytes, ends, lent, out, at),
+        0 => track_boxes::read(bytes, ends, out, at),
+        1 => track_boxes::write(line, bytes, ends, lent, out, at),
         2 => samples::auxiliary(line, bytes, ends, out, at),
         3 => samples::whole(Direction::Lock, line, bytes, ends, lent, out, at),
         4 => samples::whole(Direction::Open, line, bytes, ends, lent, out, at),
-        5 => streams::started(line, bytes, ends, lent, out, at),
-        6 => streams::given(line, bytes, ends, lent, out, at),
-        7 => issuers::grants(line, bytes, ends, out, at),
+        5 => streams::started(to, line, bytes, ends, lent, out, at),
+        6 => streams::given(to, line, bytes, ends, lent, out, at),
+        7 => issuers::grants(to, line, bytes, ends, out, at),
         8 => volumes::empty(line, lent, out, at),
         9 => volumes::check(bytes, ends, out, at),
         10 => volumes::record(line, bytes, ends, out, at),

@@ -24,17 +24,24 @@ fn reply(issuer: Issuer, blocks: u64, out: &mut [u8], at: usize) -> Replied {
 }
 
 // The reply to each block count from a place of the line on.
-fn replies(start: Issuer, line: &[u8], first: usize, out: &mut [u8], at: usize) -> usize {
+fn replies(
+    to: &impl Print,
+    start: Issuer,
+    line: &[u8],
+    first: usize,
+    out: &mut [u8],
+    at: usize,
+) -> usize {
     let mut issuer = start;
     let mut end = at;
     let mut from = first;
     while from < line.len() {
         let word = text::word_at(line, from, b' ');
         let start = word.start;
-        let to = word.end;
-        from = to + 1;
-        let blocks = text::read_number(&line[start..to], u64::MAX).value;
-        end = output::make_room(out, end);
+        let past = word.end;
+        from = past + 1;
+        let blocks = text::read_number(&line[start..past], u64::MAX).value;
+        end = output::make_room(to, out, end);
         let replied = reply(issuer, blocks, out, end);
         let next = replied.issuer;
         issuer = next;
@@ -44,9 +51,16 @@ fn replies(start: Issuer, line: &[u8], first: usize, out: &mut [u8], at: usize) 
 }
 
 // `issuer START COUNT..`, answered by the start's answer and the replies.
-pub(crate) fn grants(line: &[u8], bytes: &[u8], ends: Ends, out: &mut [u8], at: usize) -> usize {
+pub(crate) fn grants(
+    to: &impl Print,
+    line: &[u8],
+    bytes: &[u8],
+    ends: Ends,
+    out: &mut [u8],
+    at: usize,
+) -> usize {
     let started = issuer::start(line::bytes(bytes, ends, 1));
     let issuer = started.issuer;
     let at = output::number(started.answer as u64, out, at);
-    replies(issuer, line, text::word_start(line, 2, b' '), out, at)
+    replies(to, issuer, line, text::word_start(line, 2, b' '), out, at)
 }

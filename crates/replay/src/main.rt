@@ -2,17 +2,17 @@
 // and at the end how many lines were malformed, if any were.
 #![tactic(auto)]
 
-mod boxes;
 mod calls;
 mod issuers;
 mod line;
 mod output;
 mod samples;
 mod streams;
+mod track_boxes;
 mod volumes;
 
-use libc::{STDERR_FILENO, STDIN_FILENO};
 use output::Buffer;
+use std::io::Read;
 
 // The longest line, without its newline.
 const LONGEST: usize = 262144;
@@ -39,10 +39,9 @@ fn hold(piece: &[u8], line: &mut Line, held: usize) -> usize {
     held + piece.len()
 }
 
-fn say(text: &[u8]) {
-    io::write_all(STDERR_FILENO, b"replay: ");
-    io::write_all(STDERR_FILENO, text);
-    io::write_all(STDERR_FILENO, b"\n");
+// A line on standard error. Nobody can be told where that fails.
+fn say(to: &impl Eprint, text: &str) {
+    let _ = eprintln!(to; "replay: {text}");
 }
 
 // The row of the line held.
@@ -64,8 +63,8 @@ fn count(row: usize, before: u64) -> u64 {
 }
 
 // Answers the line held; an empty line by an empty line.
-fn answer(line: &[u8], before: State, out: &mut Buffer) -> State {
-    let at = output::make_room(out, before.end);
+fn answer(to: &impl Print, line: &[u8], before: State, out: &mut Buffer) -> State {
+    let at = output::make_room(to, out, before.end);
     if before.held == 0 {
         return State {
             held: 0,
@@ -75,7 +74,7 @@ fn answer(line: &[u8], before: State, out: &mut Buffer) -> State {
     }
     let row = row_of(line, before.held);
     let text = line::part(line, 0, before.held);
-    let end = calls::answer(row, text, out, at);
+    let end = calls::answer(to, row, text, out, at);
     State {
         held: 0,
         end: output::byte(b'\n', out, end),
@@ -84,7 +83,7 @@ fn answer(line: &[u8], before: State, out: &mut Buffer) -> State {
 }
 
 // Answers the lines that end in a piece of the input, and holds what follows them.
-fn lines(piece: &[u8], before: State, line: &mut Line, out: &mut Buffer) -> State {
+fn lines(to: &impl Print, piece: &[u8], before: State, line: &mut Line, out: &mut Buffer) -> State {
     let mut state = before;
     let mut start = 0;
     while start < piece.len() {
@@ -94,24 +93,24 @@ fn lines(piece: &[u8], before: State, line: &mut Line, out: &mut Buffer) -> Stat
         let held = hold(&piece[from..end], line, state.held);
         state.held = held;
         if end < piece.len() {
-            let next = answer(line, state, out);
+            let next = answer(to, line, state, out);
             state = next;
         }
         start = end + 1;
     }
-    state.end = output::flush(out, state.end);
+    state.end = output::flush(to, out, state.end);
     state
 }
 
 // Answers a last line that has no newline.
-fn last(state: State, line: &Line, out: &mut Buffer) -> State {
+fn last(to: &impl Print, state: State, line: &Line, out: &mut Buffer) -> State {
     if state.held == 0 {
         return state;
     }
-    let next = answer(line, state, out);
+    let next = answer(to, line, state, out);
     State {
         held: 0,
-        end: output::flush(out, next.end),
+        end: output::flush(to, out, next.end),
         malformed: next.malformed,
     }
 }
@@ -123,11 +122,16 @@ struct Turn {
     state: State,
 }
 
-fn take_turn(state: State, line: &mut Line, out: &mut Buffer) -> Turn {
-    let mut input = [0u8; 65536];
-    let got = libc::read(STDIN_FILENO, &mut input);
-    if got < 0 {
-        say(b"cannot read standard input");
+fn take_turn(
+    rt: &(impl Print + Eprint),
+    input: &mut impl Read,
+    state: State,
+    line: &mut Line,
+    out: &mut Buffer,
+) -> Turn {
+    let mut piece = [0u8; 65536];
+    let Ok(count) = input.read(&mut piece) else {
+        say(rt, "cannot read standard input");
         return Turn {
             more: false,
             state: State {
@@ -136,12 +140,11 @@ fn take_turn(state: State, line: &mut Line, out: &mut Buffer) -> Turn {
                 malformed: state.malformed,
             },
         };
-    }
-    let count = io::count(got, &input);
+    };
     if count == 0 {
         return Turn { more: false, state };
     }
-    let next = lines(&input[..count], state, line, out);
+    let next = lines(rt, &piece[..count], state, line, out);
     Turn {
         more: next.end != output::FAILED,
         state: next,
@@ -149,17 +152,17 @@ fn take_turn(state: State, line: &mut Line, out: &mut Buffer) -> Turn {
 }
 
 // Says that writing failed, or how many lines were malformed.
-fn report(state: State) {
+fn report(to: &impl Eprint, state: State) {
     if state.end == output::FAILED {
-        say(b"cannot write to standard output");
+        say(to, "cannot write to standard output");
     } else if 0 < state.malformed {
-        io::write_all(STDERR_FILENO, b"replay: ");
-        io::print_decimal(STDERR_FILENO, state.malformed);
-        io::write_all(STDERR_FILENO, b" lines malformed\n");
+        let malformed = state.malformed;
+        let _ = eprintln!(to; "replay: {malformed} lines malformed");
     }
 }
 
-fn main() {
+fn main(rt: HostRuntime) {
+    let mut input = rt.stdin();
     let mut line = [0u8; LONGEST];
     let mut out = [0u8; output::SIZE];
     let mut state = State {
@@ -169,12 +172,12 @@ fn main() {
     };
     // Nothing says that the input ends, so the loop has an end of its own, which no input reaches.
     for _ in 0..u64::MAX {
-        let turn = take_turn(state, &mut line, &mut out);
+        let turn = take_turn(&rt, &mut input, state, &mut line, &mut out);
         let next = turn.state;
         state = next;
         if !turn.more {
             break;
         }
     }
-    report(last(state, &line, &mut out));
+    report(&rt, last(&rt, state, &line, &mut out));
 }

@@ -1,6 +1,6 @@
 // The text of the answers, gathered in a buffer. A function here is told where the text ends, and answers where it ends after the
 // call. What does not fit is left out, so nothing is put behind a place past the buffer.
-use libc::STDOUT_FILENO;
+use itoa::Buffer as Digits;
 
 // Room for two of the longest answers or replies.
 pub const SIZE: usize = 1048576;
@@ -11,20 +11,20 @@ pub type Buffer = [u8; SIZE];
 pub const FAILED: usize = 18446744073709551615;
 
 // Writes the text out; answers where the next begins.
-pub(crate) fn flush(out: &[u8], at: usize) -> usize {
+pub(crate) fn flush(to: &impl Print, out: &[u8], at: usize) -> usize {
     if out.len() < at {
         return FAILED;
     }
-    if io::write_all(STDOUT_FILENO, &out[0..at]) {
+    if to.write_all(&out[0..at]).is_ok() {
         return 0;
     }
     FAILED
 }
 
 // Writes the text out if half of the buffer is full.
-pub(crate) fn make_room(out: &[u8], at: usize) -> usize {
+pub(crate) fn make_room(to: &impl Print, out: &[u8], at: usize) -> usize {
     if SIZE / 2 < at {
-        return flush(out, at);
+        return flush(to, out, at);
     }
     at
 }
@@ -35,9 +35,8 @@ pub(crate) fn byte(b: u8, out: &mut [u8], at: usize) -> usize {
 
 // A number in decimal.
 pub(crate) fn number(n: u64, out: &mut [u8], at: usize) -> usize {
-    let mut digits = [0u8; 20];
-    let count = io::decimal(n, &mut digits);
-    text::put(&digits[..count], out, at)
+    let mut digits = Digits::new();
+    text::put(digits.format(n).as_bytes(), out, at)
 }
 
 // A number, and a byte after it.

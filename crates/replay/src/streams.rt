@@ -2,7 +2,7 @@
 ghost use Rattle.std.specs.Prelude.{◌≤◌, length};
 
 use crate::line::Ends;
-use crate::{boxes, line, output, samples};
+use crate::{line, output, samples, track_boxes};
 use aes::Key;
 use modes::{Direction, ModeBlock};
 use stream::{Declared, Progress, Started, Stream};
@@ -25,7 +25,7 @@ fn put_parameters(
 ) -> usize {
     let at = put_direction(direction, out, at);
     let at = text::put(b" [", out, at);
-    let at = boxes::put_parameters(parameters, out, at);
+    let at = track_boxes::put_parameters(parameters, out, at);
     text::put(b"] ", out, at)
 }
 
@@ -116,6 +116,7 @@ fn reply(
 
 // The reply to each word of a line from one on, then the record.
 fn replies(
+    to: &impl Print,
     start: Stream,
     line: &[u8],
     first: usize,
@@ -132,10 +133,10 @@ fn replies(
     while from < line.len() {
         let word = text::word_at(line, from, b' ');
         let start = word.start;
-        let to = word.end;
-        from = to + 1;
-        end = output::make_room(out, end);
-        let replied = reply(stream, &line[start..to], &mut piece, lent, out, end);
+        let past = word.end;
+        from = past + 1;
+        end = output::make_room(to, out, end);
+        let replied = reply(stream, &line[start..past], &mut piece, lent, out, end);
         let next = replied.stream;
         stream = next;
         end = replied.end;
@@ -145,6 +146,7 @@ fn replies(
 
 // `stream DIRECTION CODE BOX AUX KEYS LENGTH CALL..`, answered by the start's answer, the replies and the record.
 pub(crate) fn started(
+    to: &impl Print,
     line: &[u8],
     bytes: &[u8],
     ends: Ends,
@@ -157,7 +159,15 @@ pub(crate) fn started(
     let started = start(line, bytes, ends);
     let stream = started.stream;
     let at = output::number_then(started.answer as u64, b' ', out, at);
-    replies(stream, line, text::word_start(line, 7, b' '), lent, out, at)
+    replies(
+        to,
+        stream,
+        line,
+        text::word_start(line, 7, b' '),
+        lent,
+        out,
+        at,
+    )
 }
 
 fn start(line: &[u8], bytes: &[u8], ends: Ends) -> Started {
@@ -214,7 +224,7 @@ fn declared(line: &[u8], bytes: &[u8], ends: Ends) -> Declared {
     let count = text::number_at(line, 10, b' ', u64::MAX) as usize;
     Declared {
         direction: line::direction(line),
-        parameters: boxes::parameters(line, bytes, ends, code, version, crypt, skip),
+        parameters: track_boxes::parameters(line, bytes, ends, code, version, crypt, skip),
         length: text::number_at(line, 9, b' ', u64::MAX) as usize,
         map: map(count, text::word(line, 11, b' ')),
         key: Key::new(octets::sixteen(line::bytes(bytes, ends, 13))),
@@ -233,6 +243,7 @@ fn progress(line: &[u8], bytes: &[u8], ends: Ends) -> Progress {
 
 // `record RECORD CALL..`, answered by the replies and the record.
 pub(crate) fn given(
+    to: &impl Print,
     line: &[u8],
     bytes: &[u8],
     ends: Ends,
@@ -247,6 +258,7 @@ pub(crate) fn given(
         progress: progress(line, bytes, ends),
     };
     replies(
+        to,
         stream,
         line,
         text::word_start(line, 17, b' '),

@@ -5,7 +5,7 @@ ghost use Rattle.std.specs.Prelude.{◌≡◌, ◌++◌, ◌+◌, ◌≤◌, len
 ghost use Rattle.text.specs.Text.{decimal};
 ghost use Rattle.sheet.specs.Sheet as spec;
 
-use libc::{STDERR_FILENO, STDIN_FILENO, STDOUT_FILENO};
+use std::io::Read;
 use track::{Parameters, StartVector, refusal};
 
 // The longest input that is not refused for its length.
@@ -137,14 +137,29 @@ fn render(input: &[u8], out: &mut [u8; 160]) -> usize
     sheet(parameters, out)
 }
 
-// What stands past one byte over the limit does not change the lines (proofs/Cut.antt), and is not read. A read error
-// counts as the end of the input.
-fn main() {
+// Reads until the buffer is full or the input ends, and answers how many bytes it put at the buffer's start. A read error counts
+// as the end of the input.
+fn read_full(input: &mut impl Read, buffer: &mut [u8]) -> usize
+    ensures { result ≤ length buffer.new }
+{
+    let mut done = 0;
+    while done < buffer.len() {
+        let count = input.read(&mut buffer[done..]).unwrap_or(0);
+        if count == 0 {
+            break;
+        }
+        done += count;
+    }
+    done
+}
+
+// What stands past one byte over the limit does not change the lines (proofs/Cut.antt), and is not read.
+fn main(rt: HostRuntime) {
     let mut input = [0u8; MAX_INPUT + 1];
-    let n = io::read_full(STDIN_FILENO, &mut input);
+    let n = read_full(&mut rt.stdin(), &mut input);
     let mut out = [0u8; 160];
     let r = render(&input[..n], &mut out);
-    if !io::write_all(STDOUT_FILENO, &out[..r]) {
-        io::write_all(STDERR_FILENO, b"sheet: cannot write to standard output\n");
+    if rt.write_all(&out[..r]).is_err() {
+        let _ = rt.eprintln("sheet: cannot write to standard output");
     }
 }
