@@ -6,7 +6,7 @@ use Rattle.sample_spec.specs.Sample.{Inputs, inputs, OfBytes}
 use Rattle.stream_spec.specs.declared.Ended.{Ended}
 use Rattle.stream_spec.proofs.Feeding.{released_fits}
 use Rattle.pieces.proofs.LentEnd.{put_end}
-use Rattle.pieces.proofs.Progress.{Progress, room, length_out, begin, further, ended, start-refused, output_short}
+use Rattle.pieces.proofs.Progress.{room, length_out, begin, further, ended, start-refused, output_short}
 use borrow.Author.Rules.{rules}
 use native.Mathlib.Omega.{arith}
 use Rattle.pieces.proofs.pieces_open.Goals as goal

@@ -3,7 +3,6 @@ use mathlib.Core.Bool.{true}
 use mathlib.Core.Path.{◌≡◌, sym, ◌∙◌}
 use Prim.Native.Nat.{◌+◌, ◌≤◌}
 use lib.ListN.{length}
-use borrow.Author.Tests.{not-true, not-false}
 use Rattle.stream_spec.specs.Stream.{sound, due}
 use Rattle.stream_spec.proofs.Rules.{position_within, held_most, sound_rules, kept_within}
 use Rattle.stream_spec.proofs.Feeding.{unsound, past, short, enough}

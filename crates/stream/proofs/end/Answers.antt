@@ -1,10 +1,9 @@
 -- the place: a sound record
 use mathlib.Core.Bool.{true}
 use mathlib.Core.Path.{◌≡◌, sym, ◌∙◌}
-use borrow.Author.Tests.{eq-eqb, ne_eqb, not-true, not-false}
+use borrow.Author.Tests.{eq-eqb, ne_eqb}
 use Rattle.octets.specs.Answers.{answer}
 use Rattle.stream_spec.specs.Stream.{sound, end_rows, end}
-use borrow.Author.Rules.{rules}
 use Rattle.stream.proofs.end.Goals as goal
 
 pub returns-then-not-sound : goal.returns-then-not-sound

@@ -3,7 +3,6 @@ use mathlib.Core.Path.{◌≡◌, ◌∙◌}
 use Prim.Native.Nat.{◌-◌}
 use lib.ListN.{length-take}
 use Rattle.stream_spec.proofs.Feeding.{checked_sound, checked_within, checked_due, checked_kept, checked_fits, feed-refused, feed_nothing, feed_done}
-use borrow.Author.Rules.{rules}
 use native.Mathlib.Omega.{arith}
 use Rattle.stream.proofs.feed.Goals as goal
 

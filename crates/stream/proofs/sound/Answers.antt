@@ -1,9 +1,8 @@
 -- the place: the rules of what was declared, kept
 use mathlib.Core.Bool.{true}
 use mathlib.Core.Path.{◌≡◌, sym, ◌∙◌}
-use borrow.Author.Tests.{le-leb, lt-leb, not-true, not-false}
+use borrow.Author.Tests.{le-leb, lt-leb}
 use Rattle.stream_spec.specs.Stream.{sound_declared, sound}
-use borrow.Author.Rules.{rules}
 use Rattle.stream.proofs.sound.Goals as goal
 
 pub returns-then-not-sound_declared : goal.returns-then-not-sound_declared

@@ -7,7 +7,6 @@ use Rattle.octets.specs.Answers.{answer}
 use Rattle.track_spec.specs.Track.{parameter_rows}
 use Rattle.subsample_spec.specs.Auxiliary.{longest, map_rows}
 use Rattle.stream_spec.specs.Stream.{sound_declared}
-use borrow.Author.Rules.{rules}
 use Rattle.stream.proofs.sound_declared.Goals as goal
 
 pub returns-then-check-ne-DONE : goal.returns-then-check-ne-DONE

@@ -1,7 +1,6 @@
 -- the places: an accepted start, and the inputs read
 use Rattle.sample_spec.specs.Sample.{Inputs, inputs}
 use Rattle.stream_spec.proofs.Starting.{start-refused, start-accepted}
-use borrow.Author.Rules.{rules}
 use Rattle.stream.proofs.start.Goals as goal
 
 pub returns-then-read-ne-DONE : goal.returns-then-read-ne-DONE

@@ -1,5 +1,4 @@
 use Rattle.stream_spec.specs.Stream.{transformed_by}
-use borrow.Author.Rules.{rules}
 use Rattle.stream.proofs.transform.Goals as goal
 
 pub returns : goal.returns
