@@ -1,4 +1,3 @@
--- the places: the size read, and found to be the length
 use mathlib.Core.Bool.{false}
 use mathlib.Core.Path.{◌≡◌, sym, ap, ◌∙◌}
 use lib.ListN.{length, take, drop, length-take, length-drop}

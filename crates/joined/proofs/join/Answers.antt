@@ -1,4 +1,3 @@
--- the places: the first copied, how much of each fits, and the start
 use mathlib.Core.List.{List}
 use mathlib.Core.Path.{◌≡◌, ap, ◌∙◌}
 use Prim.Native.Nat.{ℕ, ◌-◌}

@@ -1,4 +1,3 @@
--- the places: the position located, and not every byte ciphered
 use mathlib.Core.Path.{sym, ◌∙◌}
 use Rattle.scheme.proofs.Locating.{used_cenc, used_in, used_out, used_clear, is_cenc, no_cenc}
 use Rattle.layout.proofs.used_at.Goals as goal

@@ -1,4 +1,3 @@
--- the places: the block read, and what it becomes
 use Rattle.std.proofs.Common.{◌≡◌, length, sym, ◌∙◌, rules}
 use Rattle.octets.proofs.Bytes.{filled_all, placed_whole}
 use Rattle.aes.specs.Block.{decipher}

@@ -1,4 +1,3 @@
--- the places: the start, and the number's bytes made
 use mathlib.Core.Path.{ap, ◌∙◌}
 use Rattle.octets.specs.Bytes.{placed}
 use Rattle.numbers.proofs.put64.Goals as goal

@@ -1,4 +1,3 @@
--- the place where the entries are written out
 use Rattle.part.proofs.cipher_part.Goals as goal
 
 pub sample_part-after-requires : goal.sample_part-after-requires

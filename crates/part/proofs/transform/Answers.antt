@@ -1,4 +1,3 @@
--- the places: a part that fits, of a protected track, and the start
 use mathlib.Core.Path.{sym, ap, ◌∙◌}
 use Rattle.scheme.specs.Machine.{Stepped}
 use borrow.Author.Tests.{ne_eqb}

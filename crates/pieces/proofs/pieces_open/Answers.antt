@@ -1,4 +1,3 @@
--- the places: a piece fed, the loop's head, the start made, and what was lent
 use mathlib.Core.Path.{◌≡◌, ap, ◌∙◌}
 use Prim.Native.Nat.{ℕ, ◌+◌, ◌-◌, ◌^◌, ◌≤◌, ◌<◌, min}
 use lib.ListN.{length, length-take, length-drop}

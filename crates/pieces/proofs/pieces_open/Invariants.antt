@@ -1,4 +1,3 @@
--- the places: a piece fed, the loop's head, the start made, and what was lent
 use Prim.Native.Nat.{◌-◌}
 use lib.ListN.{length}
 use Rattle.sample_spec.specs.Sample.{inputs}

@@ -1,4 +1,3 @@
--- the places: a record of 32 bytes for a protected track, and the start
 use mathlib.Core.Bool.{true, false}
 use mathlib.Core.Path.{◌≡◌, sym, ◌∙◌}
 use lib.ListN.{length, take}

@@ -1,4 +1,3 @@
--- the places: the inputs read, and the auxiliary data, the box and all else lent
 use mathlib.Core.Path.{sym, ◌∙◌}
 use Rattle.sample_spec.specs.Sample.{Inputs, inputs, OfBytes}
 use Rattle.sample_spec.proofs.Accepted.{inputs-answer, after-refused, after_done}

@@ -1,4 +1,3 @@
--- the places: the box read, the key found, and the start
 use mathlib.Core.Path.{sym, ◌∙◌}
 use Rattle.sample_spec.specs.Sample.{Inputs, inputs}
 use Rattle.sample_spec.proofs.Tables.{refused_box, refused_key, refused_data, read_done}

@@ -1,4 +1,3 @@
--- the places: the piece accepted and not empty, and what was lent
 use mathlib.Core.Path.{◌≡◌, ◌∙◌}
 use Prim.Native.Nat.{◌-◌}
 use lib.ListN.{length-take}

@@ -1,4 +1,3 @@
--- the places: the part transformed, the bytes that are due taken, and the start
 use mathlib.Core.Path.{sym, ap, ◌∙◌}
 use Prim.Native.Nat.{◌+◌, ◌≤◌}
 use lib.ListN.{length}

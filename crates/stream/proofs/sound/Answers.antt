@@ -1,4 +1,3 @@
--- the place: the rules of what was declared, kept
 use mathlib.Core.Bool.{true}
 use mathlib.Core.Path.{◌≡◌, sym, ◌∙◌}
 use borrow.Author.Tests.{le-leb, lt-leb}

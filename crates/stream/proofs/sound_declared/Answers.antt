@@ -1,4 +1,3 @@
--- the places: the checks of the parameters, of the length and of the map, passed
 use mathlib.Core.Bool.{true}
 use mathlib.Core.Path.{◌≡◌, sym, ◌∙◌}
 use lib.Dec.{eqb, leb}

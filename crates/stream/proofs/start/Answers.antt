@@ -1,4 +1,3 @@
--- the places: an accepted start, and the inputs read
 use Rattle.sample_spec.specs.Sample.{Inputs, inputs}
 use Rattle.stream_spec.proofs.Starting.{start-refused, start-accepted}
 use Rattle.stream.proofs.start.Goals as goal

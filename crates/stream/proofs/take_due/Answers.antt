@@ -1,4 +1,3 @@
--- the places: the bytes lent for the output, and those lent for what is held after it
 use mathlib.Core.Path.{◌≡◌}
 use Prim.Native.Nat.{◌-◌, ◌≤◌}
 use lib.ListN.{length}

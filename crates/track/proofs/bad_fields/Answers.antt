@@ -1,4 +1,3 @@
--- the place where the fields are allowed and the length that they call for is known
 use mathlib.Core.Bool.{false}
 use mathlib.Core.Path.{◌≡◌, sym, ◌∙◌}
 use borrow.Author.Tests.{eq-eqb, ne_eqb}

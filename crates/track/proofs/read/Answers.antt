@@ -1,4 +1,3 @@
--- the places: the code known, the frame sound, the head sound
 use mathlib.Core.Bool.{true}
 use mathlib.Core.Path.{◌≡◌, sym, ap, ◌∙◌}
 use Prim.Native.Nat.{ℕ}

@@ -1,4 +1,3 @@
--- the places: the KID tried, the fields tried, and no constant IV called for
 use mathlib.Core.Bool.{true}
 use mathlib.Core.Path.{◌≡◌, sym, ◌∙◌}
 use Rattle.track_spec.specs.Track.{under_zero_kid, allowed}

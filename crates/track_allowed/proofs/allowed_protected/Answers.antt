@@ -1,4 +1,3 @@
--- the places: after the first code was tried, and after the second
 use mathlib.Core.Path.{sym, ◌∙◌}
 use Rattle.track_spec.specs.Track.{allowed_protected}
 use Rattle.track_allowed.proofs.allowed_protected.Goals as goal

@@ -1,4 +1,3 @@
--- the places: the header stored, made, and the start
 use Rattle.track_spec.specs.Track.{Held}
 use Rattle.track_spec.proofs.RoundTrip.{header_and_fields, size_between}
 use Rattle.track_spec.proofs.Storing.{stored_box}

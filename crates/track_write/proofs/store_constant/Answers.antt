@@ -1,4 +1,3 @@
--- the places: the IV's bytes, its size stored, and the start
 use mathlib.Core.List.{[], ◌∷◌}
 use mathlib.Core.Path.{◌≡◌, refl}
 use Prim.Native.Nat.{◌+◌}

@@ -1,4 +1,3 @@
--- the places: the front stored, and the start
 use mathlib.Core.Bool.{true}
 use mathlib.Core.Path.{sym, ◌∙◌}
 use Rattle.track_spec.proofs.Codes.{allowed_small}

@@ -1,4 +1,3 @@
--- the places: the KID's bytes, and the front stored
 use Rattle.track_write.proofs.store_front.Goals as goal
 
 pub returns : goal.returns

@@ -1,4 +1,3 @@
--- the place where the parameters are accepted and the length is known
 use mathlib.Core.Path.{◌≡◌, sym, ◌∙◌}
 use Prim.Native.Nat.{◌≤◌}
 use lib.ListN.{length}

@@ -1,4 +1,3 @@
--- the places: the mode of the scheme, and the start
 use mathlib.Core.Bool.{cond}
 use mathlib.Core.List.{List}
 use mathlib.Core.Path.{◌≡◌, sym, ap, ◌∙◌}
