@@ -60,7 +60,7 @@ past_end_lem : (grant exhausted 0).answer ≡ 0 → ⊥
 unfolding grant grant_rows answer
 past_end_lem h = omega arith
 
--- a used_up_lem issuer grants nothing
+-- a used-up issuer grants nothing
 pub never_again : (i : Issuer) → i.used_up ≡ true → (ns : List ℕ) (k : ℕ) → (grant_at i ns k).answer ≡ 0 → ⊥
 unfolding run
 never_again i u [] k h = past_end_lem h

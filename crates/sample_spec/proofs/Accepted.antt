@@ -1,4 +1,4 @@
--- What accepted inputs say: the sample's entries, its IV, and that the transform of the whole is the whole_sample_lem definition.
+-- What accepted inputs say: the sample's entries, its IV, and that the transform of the whole is the whole-sample definition.
 use mathlib.Core.Bool.{Bool, true, false, cond}
 use mathlib.Core.List.{List}
 use mathlib.Core.Path.{◌≡◌, refl, sym, ap, ◌∙◌}

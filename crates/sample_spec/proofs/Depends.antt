@@ -1,4 +1,4 @@
--- What the answers depend on: that of finding a key not on its bytes, and that of a whole_sample_lem call not on key bytes, IV bytes or the
+-- What the answers depend on: that of finding a key not on its bytes, and that of a whole-sample call not on key bytes, IV bytes or the
 -- sample's contents.
 use mathlib.Core.Path.{◌≡◌, ap, ◌∙◌}
 use mathlib.Core.List.{List}

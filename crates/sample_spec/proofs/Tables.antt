@@ -1,4 +1,4 @@
--- The table of a whole_sample_lem call: the first of box, key record and auxiliary data that is refused decides.
+-- The table of a whole-sample call: the first of box, key record and auxiliary data that is refused decides.
 use mathlib.Core.List.{List, ◌++◌}
 use mathlib.Core.Path.{◌≡◌, sym, ap, ◌∙◌}
 use Prim.Native.Nat.{ℕ}

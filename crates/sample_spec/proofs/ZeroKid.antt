@@ -1,4 +1,4 @@
--- A whole_sample_lem call that is accepted is not under the zero KID, and under the zero KID nothing is ciphered; what was locked under it comes
+-- A whole-sample call that is accepted is not under the zero KID, and under the zero KID nothing is ciphered; what was locked under it comes
 -- back under another KID.
 use mathlib.Core.Bool.{Bool, true, false}
 use mathlib.Core.List.{List}

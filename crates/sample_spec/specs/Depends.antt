@@ -1,5 +1,5 @@
 -- Document 01, "Which number is answered .. never depends on key bytes, IV bytes or sample contents": what two calls that find a key, two
--- whole_sample_lem calls, or two starts, may differ in.
+-- whole-sample calls, or two starts, may differ in.
 use Rattle.std.specs.Prelude.{List, ◌≡◌, ℕ, ◌≤◌, ◌<◌, length, get_or}
 use Rattle.track_spec.specs.declared.Parameters.{Parameters}
 use Rattle.sample_spec.specs.Sample.{Inputs}

@@ -1,4 +1,4 @@
--- The machine over a whole sample (specs/Machine) releases what the whole_sample_lem definition (specs/WholeSample) makes of it.
+-- The machine over a whole sample (specs/Machine) releases what the whole-sample definition (specs/WholeSample) makes of it.
 use mathlib.Core.Path.{◌≡◌, refl, sym, ap, ◌∙◌}
 use mathlib.Core.Bool.{Bool, true, false, cond, ◌&&◌, and-false}
 use mathlib.Core.List.{List, [], ◌∷◌, ◌++◌, append_assoc, append-nil}
@@ -362,7 +362,7 @@ module _ (E D : Cipher) (sE : Sized E) (sD : Sized D) (d : Direction) (iv : List
         (drop_part F p (a + b) (replicate a false ++ range_marks (restarts Cbcs) b) (restart_mask Cbcs es)
         (simp (length-append, length-replicate, length_range)) (simp append_assoc eF))))
 
--- ---- a whole sample fed to the machine comes out as the whole_sample_lem definition makes it
+-- ---- a whole sample fed to the machine comes out as the whole-sample definition makes it
 
 -- nothing is held at first
 sound-start : (k : Mode) → 0 ≡ held_after k 0

@@ -1,4 +1,4 @@
--- The machine under parameters and a map, from the start on, gives what the whole_sample_lem definition makes of the sample.
+-- The machine under parameters and a map, from the start on, gives what the whole-sample definition makes of the sample.
 use mathlib.Core.Bool.{Bool, true, false}
 use mathlib.Core.List.{List, [], ◌∷◌}
 use mathlib.Core.Path.{◌≡◌, refl, sym, ◌∙◌}

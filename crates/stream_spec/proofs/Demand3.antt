@@ -248,7 +248,7 @@ module _ (d : Direction) (i : Inputs) (n : ℕ) (ok : OfBytes i) (h : (start d i
     adds_up : length xs ≡ total (entries_of (parameters_of i) (map_of i) (length xs))
     adds_up = rw l (sym (accepted-length i n accepts))
 
-    -- what the pieces a of a sample release is the beginning of what the whole_sample_lem call makes of it
+    -- what the pieces a of a sample release is the beginning of what the whole-sample call makes of it
     begins_with : (a rest : List ℕ) → xs ≡ a ++ rest
         → (fed q iv a).released ≡ take (length a - held_from i n (length a)) (sample_after d i xs)
     unfolding machine ciphered_by

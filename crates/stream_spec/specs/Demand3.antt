@@ -126,7 +126,7 @@ pub record Demand3 (d : Direction) (i : Inputs) (n : ℕ) (calls : List Call) : 
   -- the replies are those of the account;
   pub replies : replies (run (start d i n).stream calls) ≡ account (held_from i n) n 0 calls
   -- for every sample of the declared length that begins with the accepted pieces, the released bytes are the first x - held x of
-  -- what the whole_sample_lem call with the start's inputs makes of it;
+  -- what the whole-sample call with the start's inputs makes of it;
   pub bytes : (xs rest : List ℕ) → xs ≡ pieces i n calls ++ rest → length xs ≡ n
       → released (run (start d i n).stream calls) ≡ take (count_at (held_from i n) (reached i n calls)) (sample_after d i xs)
   -- they are that many; the record's held count is held x, at most 15;

@@ -65,7 +65,7 @@ keys_under kid = kid ++ span 101 16
 abbrev pub keys_of : List ℕ
 keys_of = keys_under (span 1 16)
 
--- What a whole_sample_lem call or a start answers, for a sample of n bytes and what follows the IV.
+-- What a whole-sample call or a start answers, for a sample of n bytes and what follows the IV.
 abbrev pub answered_for : List ℕ → ℕ → List ℕ → ℕ → List ℕ
 answered_for code iv_size after n = answered (inputs code (box_of iv_size) (replicate iv_size 0 ++ after) keys_of) n ∷ []
 

@@ -76,7 +76,7 @@ module _ (v contents : List ℕ) (term today : ℕ) where
     length-added =
         ap length split_trailer ∙ simp (length-append, length_fields) (omega (arith, length_front, length_earlier, h.filled))
 
-    module _ (room : length v + length contents + 24 < 2 ^ 64) (Term-fits : term < 2 ^ 32) (today_fits : today < 2 ^ 32) where
+    module _ (room : length v + length contents + 24 < 2 ^ 64) (term_fits : term < 2 ^ 32) (today_fits : today < 2 ^ 32) where
       trailer_new : trailer new ≡ last
       unfolding trailer_bytes
       trailer_new =
@@ -108,7 +108,7 @@ module _ (v contents : List ℕ) (term today : ℕ) where
           length-append records earlier ∙ omega (arith, length_records, length_earlier) in
           ap (λ (w : List ℕ). entry_at w ((trailer v).offset + length contents + (trailer v).count * 24)) split_entry
           ∙ entry-fields entry.offset entry.length entry.day entry.term
-          (record { first = omega (arith, h.filled); second = omega arith; third = today_fits; fourth = Term-fits })
+          (record { first = omega (arith, h.filled); second = omega arith; third = today_fits; fourth = term_fits })
           (records ++ earlier) (trailer_bytes last) _ l
 
       pub index-added : index (added v contents term today) ≡ index v ++ (new_entry v contents term today ∷ [])
