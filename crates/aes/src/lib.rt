@@ -4,7 +4,7 @@
 mod inv_sbox;
 mod sbox;
 
-ghost use Rattle.std.specs.Prelude.{◌≡◌};
+ghost use Rattle.std.specs.Prelude.{◌≡◌, ℕ};
 ghost use Rattle.fips197.specs.Field as field;
 ghost use Rattle.fips197.specs.State as state;
 ghost use Rattle.fips197.specs.Cipher as spec;
@@ -15,8 +15,9 @@ ghost use Rattle.aes.specs.Block as block;
 
 use inv_sbox::INV_SBOX;
 use sbox::SBOX;
+use std::array;
 
-// Four columns of four bytes.
+// Four columns of four bytes. Functions of a state write out its columns: a closure that makes one needs clauses longer than that list.
 pub type State = [[u8; 4]; 4];
 
 // The keys of the initial addition and of each round.
@@ -33,50 +34,27 @@ impl Key {
 
     pub const ROUNDS: usize = 10;
 
-    pub fn new(bytes: [u8; Key::SIZE]) -> Key
-        ensures { result.0 ≡ bytes }
-    {
-        Key(bytes)
-    }
-
     // The round keys, made once and handed to the block functions.
     pub fn round_keys(self) -> RoundKeys
         ensures { result ≡ block.round_keys self.0 }
     {
-        let key = self.0;
-        key_expansion(key)
+        key_expansion(self.0)
     }
 }
 
 impl Block {
     pub const SIZE: usize = 16;
 
-    pub fn new(bytes: [u8; Block::SIZE]) -> Block
-        ensures { result.0 ≡ bytes }
-    {
-        Block(bytes)
-    }
-
-    pub fn bytes(self) -> [u8; Block::SIZE]
-        ensures { result ≡ self.0 }
-    {
-        self.0
-    }
-
     pub fn encipher(self, keys: RoundKeys) -> Block
         ensures { result.0 ≡ block.encipher keys self.0 }
     {
-        let bytes = self.0;
-        let out = store(cipher(keys, load(bytes)));
-        Block(out)
+        Block(store(cipher(keys, load(self.0))))
     }
 
     pub fn decipher(self, keys: RoundKeys) -> Block
         ensures { result.0 ≡ block.decipher keys self.0 }
     {
-        let bytes = self.0;
-        let out = store(inv_cipher(keys, load(bytes)));
-        Block(out)
+        Block(store(inv_cipher(keys, load(self.0))))
     }
 }
 
@@ -106,29 +84,16 @@ fn xtime(x: u8) -> u8
     (x << 1) ^ ((x >> 7) * 0x1b)
 }
 
-// The entry of the S-box.
-fn sub_byte(x: u8, table: &[u8; 256]) -> u8
-    requires { Tabulates spec.sub_byte table.now }
-    ensures { result ≡ spec.sub_byte x }
-{
-    table[x as usize]
-}
-
+// The bytes of a word, each by its entry in a table.
 fn sub_word(w: [u8; 4], table: &[u8; 256]) -> [u8; 4]
-    requires { Tabulates spec.sub_byte table.now }
-    ensures { result ≡ spec.sub_word w }
+    ensures { (f : ℕ → ℕ) → Tabulates f table.now → result ≡ state.four (λ r. f (state.byte w r)) }
 {
-    [
-        sub_byte(w[0], table),
-        sub_byte(w[1], table),
-        sub_byte(w[2], table),
-        sub_byte(w[3], table),
-    ]
+    array::from_fn(|r| table[w[r] as usize])
 }
 
+// SubBytes and InvSubBytes, each by its table.
 fn sub_bytes(s: State, table: &[u8; 256]) -> State
-    requires { Tabulates spec.sub_byte table.now }
-    ensures { result ≡ spec.sub_bytes s }
+    ensures { (f : ℕ → ℕ) → Tabulates f table.now → result ≡ state.four (λ c. state.four (λ r. f (state.cell s r c))) }
 {
     [
         sub_word(s[0], table),
@@ -159,12 +124,7 @@ fn mix(a: u8, b: u8, c: u8, d: u8) -> u8
 fn mix_column(w: [u8; 4]) -> [u8; 4]
     ensures { result ≡ spec.matrix 2 3 1 1 w }
 {
-    [
-        mix(w[0], w[1], w[2], w[3]),
-        mix(w[1], w[2], w[3], w[0]),
-        mix(w[2], w[3], w[0], w[1]),
-        mix(w[3], w[0], w[1], w[2]),
-    ]
+    array::from_fn(|i| mix(w[i], w[(i + 1) % 4], w[(i + 2) % 4], w[(i + 3) % 4]))
 }
 
 fn mix_columns(s: State) -> State
@@ -195,24 +155,22 @@ fn add_round_key(s: State, k: State) -> State
     ]
 }
 
-fn round(s: State, k: State, table: &[u8; 256]) -> State
-    requires { Tabulates spec.sub_byte table.now }
+fn round(s: State, k: State) -> State
     ensures { result ≡ spec.round s k }
 {
-    add_round_key(mix_columns(shift_rows(sub_bytes(s, table))), k)
+    add_round_key(mix_columns(shift_rows(sub_bytes(s, &SBOX))), k)
 }
 
 fn cipher(keys: RoundKeys, s: State) -> State
     ensures { result ≡ spec.cipher keys s }
 {
-    let sbox = SBOX;
-    let table = &sbox;
     let mut t = add_round_key(s, keys[0]);
-    for i in 0..Key::ROUNDS - 1 {
-        let next = round(t, keys[i + 1], table);
+    // A round's state gets a name first: the compiler refuses `t = round(t, ..)` at an array, here and below.
+    for i in 1..Key::ROUNDS {
+        let next = round(t, keys[i]);
         t = next;
     }
-    add_round_key(shift_rows(sub_bytes(t, table)), keys[Key::ROUNDS])
+    add_round_key(shift_rows(sub_bytes(t, &SBOX)), keys[Key::ROUNDS])
 }
 
 fn rot_word(w: [u8; 4]) -> [u8; 4]
@@ -222,19 +180,17 @@ fn rot_word(w: [u8; 4]) -> [u8; 4]
 }
 
 // The first word of the round key after k.
-fn first_word(k: State, rcon: u8, table: &[u8; 256]) -> [u8; 4]
-    requires { Tabulates spec.sub_byte table.now }
+fn first_word(k: State, rcon: u8) -> [u8; 4]
     ensures { result ≡ schedule.first_word k rcon }
 {
-    let temp = add_word(sub_word(rot_word(k[3]), table), [rcon, 0, 0, 0]);
+    let temp = add_word(sub_word(rot_word(k[3]), &SBOX), [rcon, 0, 0, 0]);
     add_word(k[0], temp)
 }
 
-fn next_key(k: State, rcon: u8, table: &[u8; 256]) -> State
-    requires { Tabulates spec.sub_byte table.now }
+fn next_key(k: State, rcon: u8) -> State
     ensures { result ≡ schedule.next_key k rcon }
 {
-    let a = first_word(k, rcon, table);
+    let a = first_word(k, rcon);
     let b = add_word(k[1], a);
     let c = add_word(k[2], b);
     let d = add_word(k[3], c);
@@ -244,13 +200,11 @@ fn next_key(k: State, rcon: u8, table: &[u8; 256]) -> State
 fn key_expansion(key: [u8; Key::SIZE]) -> RoundKeys
     ensures { result ≡ schedule.key_expansion key }
 {
-    let sbox = SBOX;
-    let table = &sbox;
     let mut k = load(key);
     let mut keys = [k; Key::ROUNDS + 1];
     let mut rcon: u8 = 1;
     for i in 0..Key::ROUNDS {
-        let next = next_key(k, rcon, table);
+        let next = next_key(k, rcon);
         keys[i + 1] = next;
         k = next;
         rcon = xtime(rcon);
@@ -269,38 +223,6 @@ fn inv_shift_rows(s: State) -> State
     ]
 }
 
-// The entry of the inverse S-box.
-fn inv_sub_byte(x: u8, table: &[u8; 256]) -> u8
-    requires { Tabulates inverse.inv_sub_byte table.now }
-    ensures { result ≡ inverse.inv_sub_byte x }
-{
-    table[x as usize]
-}
-
-fn inv_sub_word(w: [u8; 4], table: &[u8; 256]) -> [u8; 4]
-    requires { Tabulates inverse.inv_sub_byte table.now }
-    ensures { result ≡ inverse.inv_sub_word w }
-{
-    [
-        inv_sub_byte(w[0], table),
-        inv_sub_byte(w[1], table),
-        inv_sub_byte(w[2], table),
-        inv_sub_byte(w[3], table),
-    ]
-}
-
-fn inv_sub_bytes(s: State, table: &[u8; 256]) -> State
-    requires { Tabulates inverse.inv_sub_byte table.now }
-    ensures { result ≡ inverse.inv_sub_bytes s }
-{
-    [
-        inv_sub_word(s[0], table),
-        inv_sub_word(s[1], table),
-        inv_sub_word(s[2], table),
-        inv_sub_word(s[3], table),
-    ]
-}
-
 // The first row of the matrix of InvMixColumns, by a column: 14, 11, 13 and 9 by their bits, doubled from the highest down.
 fn inv_mix(a: u8, b: u8, c: u8, d: u8) -> u8
     ensures { result ≡ spec.row 14 11 13 9 a b c d }
@@ -314,12 +236,7 @@ fn inv_mix(a: u8, b: u8, c: u8, d: u8) -> u8
 fn inv_mix_column(w: [u8; 4]) -> [u8; 4]
     ensures { result ≡ spec.matrix 14 11 13 9 w }
 {
-    [
-        inv_mix(w[0], w[1], w[2], w[3]),
-        inv_mix(w[1], w[2], w[3], w[0]),
-        inv_mix(w[2], w[3], w[0], w[1]),
-        inv_mix(w[3], w[0], w[1], w[2]),
-    ]
+    array::from_fn(|i| inv_mix(w[i], w[(i + 1) % 4], w[(i + 2) % 4], w[(i + 3) % 4]))
 }
 
 fn inv_mix_columns(s: State) -> State
@@ -333,24 +250,19 @@ fn inv_mix_columns(s: State) -> State
     ]
 }
 
-fn inv_round(s: State, k: State, table: &[u8; 256]) -> State
-    requires { Tabulates inverse.inv_sub_byte table.now }
+fn inv_round(s: State, k: State) -> State
     ensures { result ≡ inverse.inv_round s k }
 {
-    inv_mix_columns(add_round_key(inv_sub_bytes(inv_shift_rows(s), table), k))
+    inv_mix_columns(add_round_key(sub_bytes(inv_shift_rows(s), &INV_SBOX), k))
 }
 
 fn inv_cipher(keys: RoundKeys, s: State) -> State
     ensures { result ≡ inverse.inv_cipher keys s }
 {
-    let sbox = INV_SBOX;
-    let table = &sbox;
     let mut t = add_round_key(s, keys[Key::ROUNDS]);
-    let mut i = Key::ROUNDS - 1;
-    while 0 < i {
-        let next = inv_round(t, keys[i], table);
+    for i in (1..Key::ROUNDS).rev() {
+        let next = inv_round(t, keys[i]);
         t = next;
-        i -= 1;
     }
-    add_round_key(inv_sub_bytes(inv_shift_rows(t), table), keys[0])
+    add_round_key(sub_bytes(inv_shift_rows(t), &INV_SBOX), keys[0])
 }

@@ -1,16 +1,23 @@
 -- What a sound frame says, what it depends on, and that a header that was written is read again.
 use mathlib.Core.Bool.{false, not, ◌||◌}
 use mathlib.Core.List.{List, [], ◌∷◌, ◌++◌, append_assoc}
+use mathlib.Core.Logic.{◌⊎◌, inl, inr}
 use mathlib.Core.Path.{◌≡◌, refl, sym, ap, ◌∙◌}
 use Prim.Native.Nat.{ℕ, ◌^◌, ◌≤◌, ◌<◌}
 use native.Mathlib.Omega.{arith}
 use lib.Dec.{eqb, ltb}
-use lib.ListN.{length, get_or, take, drop, length-append}
+use lib.ListN.{length, get_or, take, drop, length-append, length-take, length-drop}
 use lib.Seq.{take_at, drop_at, take-add, drop-drop, drop-cons, get_or_at}
 use borrow.Author.Tests.{eqb-true, eq-eqb, ltb-false, le-ltb, not-false}
-use Rattle.octets.specs.Bytes.{digits}
+use denote.Ref.{Bor}
+use Rattle.std.specs.Option.{option_eq}
+use Rattle.std.specs.Slice.{IsGetRangeResult}
+use Rattle.std.proofs.Common.{Option, Some, None}
+use lib.Pointwise.{pointwise}
+use Rattle.octets.specs.Bytes.{digits, same}
+use Rattle.octets.proofs.Equal.{eq-same}
 use Rattle.octets.proofs.Alike.{number_alike, part_alike}
-use Rattle.octets.proofs.Bytes.{same_equal, same_true, length_digits, number_digits, number_before, number_behind, digits_number}
+use Rattle.octets.proofs.Bytes.{same_equal, same_true, same_false, length_digits, number_digits, number_before, number_behind, digits_number}
 use Rattle.octets.proofs.Tests.{or_false_left, or_false_right}
 use Rattle.boxes.specs.Box.{size, type, version, flags, bad_frame, header}
 
@@ -29,6 +36,16 @@ module _ (least : ℕ) (kind box : List ℕ) where
     frame_type =
         same_equal (type box) kind
         (not-false _ (or_false_right (ltb (length box) least || not (eqb (size box) (length box))) _ h))
+
+  -- what comparing the bytes looked up, if there are any, with the type says
+  pub type_compared : length kind ≡ 4 → (r : Option (Bor (List ℕ))) (k : Bor (List ℕ)) → IsGetRangeResult box 4 8 r → k.now ≡ kind
+      → option_eq (λ (x y : Bor (List ℕ)). pointwise eqb x.now y.now) r (Some k) ≡ same (type box) kind
+  type_compared n None k h e = sym (same_false (type box) kind (λ t. short h.0 (ap length t ∙ n)))
+    where
+      short : (8 < 4) ⊎ (length box < 8) → length (type box) ≡ 4 → ⊥
+      short (inl l) t = omega arith
+      short (inr l) t = omega (arith, l, t, length-take 4 (drop 4 box), length-drop 4 box)
+  type_compared n (Some x) k h e = eq-same x.now k.now ∙ rw (e, h.0.2)
 
   pub framed : least ≤ length box → size box ≡ length box → type box ≡ kind → bad_frame least kind box ≡ false
   unfolding bad_frame

@@ -8,20 +8,14 @@ ghost use Rattle.boxes.specs.Box as spec;
 pub const HEADER: usize = 12;
 
 // Whether a slice isn't one whole box of a type, of at least so many bytes.
+#[tactic(auto, unfolding(crate::specs::Box::bad_frame))]
 pub fn bad_frame(least: usize, kind: [u8; 4], slice: &[u8]) -> bool
     ensures { result ≡ spec.bad_frame least kind slice.now }
 {
-    if slice.len() < least {
-        return true;
-    }
-    if numbers::be32(slice, 0) as usize != slice.len() {
-        return true;
-    }
-    // Such a slice has no type.
-    if slice.len() < 8 {
-        return true;
-    }
-    !octets::same(&slice[4..8], &kind)
+    // A slice that is too short has no type.
+    slice.len() < least
+        || numbers::be32(slice, 0) as usize != slice.len()
+        || slice.get(4..8) != Some(&kind[..])
 }
 
 // A full box's version.
@@ -42,9 +36,8 @@ pub fn flags(slice: &[u8]) -> u32
 pub fn header(size: u32, kind: [u8; 4], version: u8, flags: u32) -> [u8; HEADER]
     ensures { result ≡ spec.header size kind version flags }
 {
-    let s = numbers::bytes32(size);
-    let f = numbers::bytes32(flags);
-    [
-        s[0], s[1], s[2], s[3], kind[0], kind[1], kind[2], kind[3], version, f[1], f[2], f[3],
-    ]
+    let [a, b, c, d] = size.to_be_bytes();
+    let [e, f, g, h] = kind;
+    let [_, i, j, k] = flags.to_be_bytes();
+    [a, b, c, d, e, f, g, h, version, i, j, k]
 }

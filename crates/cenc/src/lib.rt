@@ -4,7 +4,26 @@
 ghost use Rattle.std.specs.Prelude.{◌≡◌, length};
 ghost use Rattle.octets.specs.Answers.{answer};
 ghost use Rattle.modes_spec.specs.declared.Direction.TheVariants.{Lock, Open};
-ghost use Rattle.sample_spec.specs.Sample.{inputs, sample_rows, sample_after};
+ghost use Rattle.sample_spec.specs.Sample.{inputs, lent, sample_rows, sample_after};
+
+use sample::Inputs;
+
+// The four byte ranges as one structure.
+fn inputs_of<'a>(
+    code: &'a [u8],
+    track_box: &'a [u8],
+    auxiliary: &'a [u8],
+    key_record: &'a [u8],
+) -> Inputs<'a>
+    ensures { lent result ≡ inputs code.now track_box.now auxiliary.now key_record.now }
+{
+    Inputs {
+        code,
+        track_box,
+        auxiliary,
+        key_record,
+    }
+}
 
 #[unsafe(no_mangle)]
 pub extern "C" fn cenc_lock(
@@ -17,7 +36,7 @@ pub extern "C" fn cenc_lock(
     ensures { (result ≡ answer (sample_rows (inputs scheme.now track_box.now auxiliary.now key_record.now) (length sample.old)))
         × (sample.new ≡ sample_after Lock (inputs scheme.now track_box.now auxiliary.now key_record.now) sample.old) }
 {
-    sample::lock(scheme, track_box, auxiliary, key_record, sample)
+    refusals::number(&sample::lock(inputs_of(scheme, track_box, auxiliary, key_record), sample))
 }
 
 #[unsafe(no_mangle)]
@@ -31,5 +50,5 @@ pub extern "C" fn cenc_open(
     ensures { (result ≡ answer (sample_rows (inputs scheme.now track_box.now auxiliary.now key_record.now) (length sample.old)))
         × (sample.new ≡ sample_after Open (inputs scheme.now track_box.now auxiliary.now key_record.now) sample.old) }
 {
-    sample::open(scheme, track_box, auxiliary, key_record, sample)
+    refusals::number(&sample::open(inputs_of(scheme, track_box, auxiliary, key_record), sample))
 }

@@ -1,28 +1,19 @@
 -- The electronic codebook mode over a slice, one block a turn.
-use mathlib.Core.Bool.{Bool, true, false}
-use mathlib.Core.List.{List, [], ◌++◌, append_assoc}
+use mathlib.Core.List.{List, ◌++◌, append_assoc}
 use mathlib.Core.Path.{◌≡◌, refl, sym, ap, ◌∙◌}
 use Prim.Native.Nat.{ℕ, suc, ◌+◌, ◌-◌, ◌/◌, ◌≤◌, ◌<◌}
 use native.Mathlib.Omega.{arith}
 use lib.ListN.{length, take, drop, length-drop}
 use lib.Seq.{drop-drop}
 use borrow.Rule.Slice.PartMut.{put_mid}
-use Rattle.octets.proofs.Fill.{Filled, fill_none, fill_part, fill_drop}
-use Rattle.aes.specs.Block.{encipher_length, decipher_length}
-use Rattle.ecb.specs.Ecb.{block_function, blocks, ecb}
-
-pub block-length : (inverse : Bool) (keys : List (List (List ℕ))) (b : List ℕ) → length (block_function inverse keys b) ≡ 16
-block-length true keys b = decipher_length keys b
-block-length false keys b = encipher_length keys b
+use Rattle.octets.proofs.Fill.{Filled, fill_part, fill_drop}
+use Rattle.ecb.specs.Ecb.{blocks, ecb}
 
 -- i bytes of xs are done; ys is as it stands, and what is left is what ECB makes of the rest
 pub record Done (f : List ℕ → List ℕ) (xs ys : List ℕ) (i : ℕ) : Type 0 where
   pub done : List ℕ
   pub filled : Filled xs ys done i
   pub left : ecb f xs ≡ done ++ ecb f (drop i xs)
-
-pub start : (f : List ℕ → List ℕ) (xs : List ℕ) → Done f xs xs 0
-start f xs = record { done = []; filled = fill_none xs [] refl; left = refl }
 
 module _ (f : List ℕ → List ℕ) (xs : List ℕ) where
   ecb_step : 16 ≤ length xs → ecb f xs ≡ f (take 16 xs) ++ ecb f (drop 16 xs)

@@ -1,42 +1,39 @@
 // The electronic codebook mode (SP 800-38A, section 6.1) over a byte string in place: for published vectors and measurements.
 #![tactic(auto)]
 
-ghost use Rattle.std.specs.Prelude.{◌≡◌, true, false, length};
+ghost use Rattle.std.specs.Prelude.{◌≡◌, true, false, List, ℕ};
 ghost use Rattle.octets.specs.Bytes.{filled};
 ghost use Rattle.aes.specs.Block.{round_keys};
 ghost use Rattle.ecb.specs.Ecb as spec;
 
 use aes::{Block, Key, RoundKeys};
 
-// A block by the block function of a direction.
-fn apply(keys: RoundKeys, inverse: bool, from: Block) -> Block
-    ensures { result.0 ≡ spec.block_function inverse keys from.0 }
+// Every whole block, by a block function that is e of its bytes, where it lies.
+fn transform<F: Fn(Block) -> Block>(f: F, data: &mut [u8])
+    requires { F.IsAlwaysCallable f }
+    ensures { (e : List ℕ → List ℕ) → ((b r : _) → F.post f b r → r.0 ≡ e b.0) → «data».new ≡ spec.ecb e «data».old }
 {
-    if inverse {
-        from.decipher(keys)
-    } else {
-        from.encipher(keys)
+    // By index: of what `chunks_exact_mut` lends, the library says only the length afterwards.
+    for i in 0..data.len() / Block::SIZE {
+        let at = i * Block::SIZE;
+        let part = &mut data[at..at + Block::SIZE];
+        let out = f(Block(octets::filled(part)));
+        part.copy_from_slice(&out.0);
     }
 }
 
-fn block(keys: RoundKeys, inverse: bool, part: &mut [u8])
-    requires { length part.old ≡ 16 }
-    ensures { part.new ≡ spec.block_function inverse keys part.old }
+// Every whole block enciphered under round keys, where it lies.
+pub fn encipher(keys: RoundKeys, data: &mut [u8])
+    ensures { «data».new ≡ spec.ecb (spec.block_function false keys) «data».old }
 {
-    let to = apply(keys, inverse, Block::new(octets::sixteen(part)));
-    octets::copy(&to.bytes(), part, 0);
+    transform(|b| b.encipher(keys), data);
 }
 
-// Every whole block under round keys, enciphered or deciphered where it lies.
-pub fn transform(keys: RoundKeys, inverse: bool, data: &mut [u8])
-    ensures { «data».new ≡ spec.ecb (spec.block_function inverse keys) «data».old }
+// Every whole block deciphered.
+pub fn decipher(keys: RoundKeys, data: &mut [u8])
+    ensures { «data».new ≡ spec.ecb (spec.block_function true keys) «data».old }
 {
-    let mut at = 0;
-    while Block::SIZE <= data.len() - at {
-        let end = at + Block::SIZE;
-        block(keys, inverse, &mut data[at..end]);
-        at = end;
-    }
+    transform(|b| b.decipher(keys), data);
 }
 
 // The same from C, under a key that is filled out with zeros, or cut, to 16 bytes.
@@ -44,12 +41,12 @@ pub fn transform(keys: RoundKeys, inverse: bool, data: &mut [u8])
 pub extern "C" fn ecb_encipher(key: &[u8], data: &mut [u8])
     ensures { «data».new ≡ spec.ecb (spec.block_function false (round_keys (filled 16 key.now))) «data».old }
 {
-    transform(Key::new(octets::sixteen(key)).round_keys(), false, data);
+    encipher(Key(octets::filled(key)).round_keys(), data);
 }
 
 #[unsafe(no_mangle)]
 pub extern "C" fn ecb_decipher(key: &[u8], data: &mut [u8])
     ensures { «data».new ≡ spec.ecb (spec.block_function true (round_keys (filled 16 key.now))) «data».old }
 {
-    transform(Key::new(octets::sixteen(key)).round_keys(), true, data);
+    decipher(Key(octets::filled(key)).round_keys(), data);
 }

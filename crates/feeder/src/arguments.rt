@@ -1,11 +1,10 @@
 // The words that the program is started with.
-ghost use Rattle.std.specs.Prelude.{◌≤◌, length};
+ghost use Rattle.std.specs.Prelude.{◌≤◌, IfSome};
 
 use crate::feeding;
 use modes::Direction;
 use std::env::FillError;
 use std::rt::Env;
-use text::Number;
 
 // The place of each; the program's own name is at 0.
 const WAY: usize = 1;
@@ -20,23 +19,51 @@ pub const KEYS: usize = 5;
 
 const PIECE: usize = 6;
 
-pub const IN: usize = 7;
+const IN: usize = 7;
 
 pub const OUT: usize = 8;
 
 const LENGTH: usize = 9;
 
 // Room for a word: no name of a file is as long.
-pub const ROOM: usize = 4096;
+const ROOM: usize = 4096;
 
-// Puts a word at the start of a buffer and answers its length. One that is too long is cut, and still too long for a name.
-pub(crate) fn word(env: &impl Env, place: usize, text: &mut [u8]) -> usize
-    ensures { result ≤ length text.new }
-{
-    match env.arg(place, text) {
-        Ok(length) => length,
-        Err(FillError::TooLong) => text.len(),
-        Err(FillError::NotPresent) => 0,
+// A word. One that is too long is cut, and still too long for a name.
+#[derive(Drop)]
+pub struct Word {
+    text: [u8; ROOM],
+    length: usize,
+    ghost within: { length ≤ 4096 },
+}
+
+impl Word {
+    // The word at a place, empty where there is none.
+    pub(crate) fn read(env: &impl Env, place: usize) -> Word {
+        let mut text = [0; ROOM];
+        let length = match env.arg(place, &mut text) {
+            Ok(length) => length,
+            Err(FillError::TooLong) => ROOM,
+            Err(FillError::NotPresent) => 0,
+        };
+        Word { text, length }
+    }
+
+    pub(crate) fn bytes(&self) -> &[u8] {
+        &self.text[..self.length]
+    }
+
+    // `-` stands for standard input or standard output.
+    pub(crate) fn is_standard(&self) -> bool {
+        self.bytes() == b"-".as_slice()
+    }
+
+    // A name as it is told.
+    pub(crate) fn shown<'a>(&'a self, standard: &'a [u8]) -> &'a [u8] {
+        if self.is_standard() {
+            standard
+        } else {
+            self.bytes()
+        }
     }
 }
 
@@ -53,64 +80,54 @@ fn is_last(env: &impl Env, place: usize) -> bool
 }
 
 // `lock` or `open`.
+fn direction(env: &impl Env) -> Option<Direction> {
+    match Word::read(env, WAY).bytes() {
+        b"lock" => Some(Direction::Lock),
+        b"open" => Some(Direction::Open),
+        _ => None,
+    }
+}
+
+// The number from 0 to the largest that a word is.
+fn number(env: &impl Env, place: usize, largest: u64) -> Option<u64>
+    ensures { IfSome result (λ n. n ≤ largest) }
+{
+    text::read_number(Word::read(env, place).bytes(), largest)
+}
+
+// What the words but the files' ask for. For standard input there is its length, which is declared.
 #[derive(Drop)]
-pub struct Way {
-    pub good: bool,
+pub struct Arguments {
     pub direction: Direction,
+    pub size: usize,
+    pub input: Word,
+    pub output: Word,
+    pub length: Option<u64>,
+    ghost within: { size ≤ 65536 },
 }
 
-impl Way {
-    pub(crate) fn read(env: &impl Env) -> Way {
-        let mut text = [0u8; ROOM];
-        let length = word(env, WAY, &mut text);
-        if octets::same(&text[0..length], b"lock") {
-            return Way {
-                good: true,
-                direction: Direction::Lock,
-            };
+impl Arguments {
+    // None unless there are as many words as there should be, and each is what it should be.
+    pub(crate) fn read(env: &impl Env) -> Option<Arguments> {
+        let input = Word::read(env, IN);
+        let is_standard = input.is_standard();
+        if !is_last(env, if is_standard { LENGTH } else { OUT }) {
+            return None;
         }
-        Way {
-            good: octets::same(&text[0..length], b"open"),
-            direction: Direction::Open,
+        let size = number(env, PIECE, feeding::PIECE as u64)?;
+        if size == 0 {
+            return None;
         }
+        Some(Arguments {
+            direction: direction(env)?,
+            size: size as usize,
+            input,
+            output: Word::read(env, OUT),
+            length: if is_standard {
+                Some(number(env, LENGTH, u64::MAX)?)
+            } else {
+                None
+            },
+        })
     }
-}
-
-// The number from 0 to the largest that a word is, and whether it is one.
-fn number(env: &impl Env, place: usize, largest: u64) -> Number
-    ensures { result.value ≤ largest }
-{
-    let mut text = [0u8; ROOM];
-    let length = word(env, place, &mut text);
-    text::read_number(&text[0..length], largest)
-}
-
-// The size of a piece, 0 where it is none.
-pub(crate) fn piece_size(env: &impl Env) -> usize
-    ensures { result ≤ 65536 }
-{
-    number(env, PIECE, feeding::PIECE as u64).value as usize
-}
-
-// The length that is declared for standard input.
-pub(crate) fn declared_length(env: &impl Env) -> Number {
-    number(env, LENGTH, u64::MAX)
-}
-
-// `-` stands for standard input or standard output.
-pub(crate) fn is_standard(name: &[u8]) -> bool {
-    octets::same(name, b"-")
-}
-
-// A name as it is told.
-pub(crate) fn shown<'a>(name: &'a [u8], standard: &'a [u8]) -> &'a [u8] {
-    if is_standard(name) { standard } else { name }
-}
-
-// Whether there are as many words as there should be: a length is declared exactly for standard input.
-pub(crate) fn are_complete(env: &impl Env, input: &[u8]) -> bool {
-    if is_standard(input) {
-        return is_last(env, LENGTH) && declared_length(env).good;
-    }
-    is_last(env, OUT)
 }

@@ -1,7 +1,8 @@
 // Files. What fails is told, but for an open file's reading and writing.
-ghost use Rattle.std.specs.Prelude.{◌≤◌, length as length_of, IfOk, IfSome};
+ghost use Rattle.std.specs.Prelude.{◌≤◌, length as length_of, IfOk};
 
-use crate::{arguments, tell};
+use crate::arguments::Word;
+use crate::tell;
 use std::fs::{OpenFile, OpenOptions};
 use std::io::{ErrorKind, Read, Seek, SeekFrom};
 use std::rt::{Env, Files};
@@ -15,6 +16,7 @@ pub(crate) fn fill(file: &mut impl Read, buffer: &mut [u8]) -> io::Result<usize>
     ensures { IfOk result (λ count. count ≤ length_of buffer.old) }
 {
     let mut count = 0;
+    // A `while`: each reading says how far it came.
     while count < buffer.len() {
         let read = file.read(&mut buffer[count..])?;
         if read == 0 {
@@ -46,31 +48,25 @@ pub(crate) fn open_sample<R: Files>(rt: &R, name: &[u8]) -> io::Result<(R::File,
 }
 
 // Reads a short file whole, into a buffer with room for a byte more.
-fn read_whole<R: Files>(rt: &R, name: &[u8], buffer: &mut [u8]) -> io::Result<usize>
-    ensures { IfOk result (λ count. count ≤ length_of buffer.old) }
-{
+fn read_whole<'a, R: Files>(rt: &R, name: &[u8], buffer: &'a mut [u8]) -> io::Result<&'a [u8]> {
     let mut file = open(rt, name)?;
-    fill(&mut file, buffer)
+    let count = fill(&mut file, buffer)?;
+    Ok(&buffer[..count])
 }
 
 // The same of the file that an argument names. None if it could not be read or is too long.
-pub(crate) fn contents<R: Files + Env + Print + Eprint>(
+pub(crate) fn contents<'a, R: Files + Env + Print + Eprint>(
     rt: &R,
     place: usize,
-    buffer: &mut [u8],
-) -> Option<usize>
-    ensures { IfSome result (λ count. count ≤ length_of buffer.old) }
-{
-    let mut name = [0u8; arguments::ROOM];
-    let end = arguments::word(rt, place, &mut name);
-    let name = &name[0..end];
+    buffer: &'a mut [u8; LONGEST + 1],
+) -> Option<&'a [u8]> {
+    let word = Word::read(rt, place);
+    let name = word.bytes();
     match read_whole(rt, name, buffer) {
-        Ok(count) => {
-            if LONGEST < count {
-                tell::about(rt, name, "is longer than 4096 bytes");
-                return None;
-            }
-            Some(count)
+        Ok(bytes) if bytes.len() <= LONGEST => Some(bytes),
+        Ok(_) => {
+            tell::about(rt, name, "is longer than 4096 bytes");
+            None
         }
         Err(error) => {
             tell::cannot(rt, "read", name, error);

@@ -11,19 +11,15 @@
 mod arguments;
 mod feeding;
 mod files;
-mod refusals;
 mod tell;
 
-ghost use Rattle.std.specs.Prelude.{◌≤◌};
-
-use arguments::Way;
-use feeding::Ending;
+use arguments::{Arguments, Word};
+use feeding::Failure;
 use modes::Direction;
 use std::io;
 use std::io::{Read, Write};
 use std::rt::{Env, Files, Runtime};
-use stream::Stream;
-use track::refusal::DONE;
+use stream::{Inputs, Stream};
 
 // Starts a stream by the scheme code and the contents of three files. None if they were not read or its start was refused.
 fn begin<R: Files + Env + Print + Eprint>(
@@ -31,53 +27,39 @@ fn begin<R: Files + Env + Print + Eprint>(
     direction: Direction,
     length: usize,
 ) -> Option<Stream> {
-    let mut code = [0u8; arguments::ROOM];
-    let mut track_box = [0u8; files::LONGEST + 1];
-    let mut auxiliary = [0u8; files::LONGEST + 1];
-    let mut key_record = [0u8; files::LONGEST + 1];
-    let code_length = arguments::word(rt, arguments::SCHEME, &mut code);
-    let box_length = files::contents(rt, arguments::BOX, &mut track_box)?;
-    let auxiliary_length = files::contents(rt, arguments::AUX, &mut auxiliary)?;
-    let key_length = files::contents(rt, arguments::KEYS, &mut key_record)?;
-    let started = stream::start(
-        direction,
-        &code[0..code_length],
-        &track_box[0..box_length],
-        &auxiliary[0..auxiliary_length],
-        &key_record[0..key_length],
-        length,
-    );
-    if started.answer != DONE {
-        tell::refused(rt, started.answer);
-        return None;
+    let mut track_box = [0; files::LONGEST + 1];
+    let mut auxiliary = [0; files::LONGEST + 1];
+    let mut key_record = [0; files::LONGEST + 1];
+    let scheme = Word::read(rt, arguments::SCHEME);
+    let inputs = Inputs {
+        code: scheme.bytes(),
+        track_box: files::contents(rt, arguments::BOX, &mut track_box)?,
+        auxiliary: files::contents(rt, arguments::AUX, &mut auxiliary)?,
+        key_record: files::contents(rt, arguments::KEYS, &mut key_record)?,
+    };
+    match stream::start(direction, inputs, length) {
+        Ok(stream) => Some(stream),
+        Err(refusal) => {
+            tell::refused(rt, refusal);
+            None
+        }
     }
-    Some(started.stream)
 }
 
-// Whether feeding came to its end. If it did not, tells why.
-fn came_to_end<R: Env + Print + Eprint>(
-    rt: &R,
-    ending: Ending,
-    input_name: &[u8],
-    output_name: &[u8],
-) -> bool {
-    match ending {
-        Ending::Done => true,
-        Ending::Refused(answer) => {
-            tell::refused(rt, answer);
-            false
-        }
-        Ending::Unread(error) => {
-            tell::cannot(rt, "read", input_name, error);
-            false
-        }
-        Ending::Early => {
-            tell::about(rt, input_name, "ended early");
-            false
-        }
-        Ending::Unwritten(error) => {
-            tell::cannot(rt, "write", output_name, error);
-            false
+// Tells why feeding did not come to its end.
+fn tell_failure<R: Env + Print + Eprint>(rt: &R, arguments: &Arguments, failure: Failure) {
+    let input = arguments.input.shown(b"standard input");
+    match failure {
+        Failure::Refused(refusal) => tell::refused(rt, refusal),
+        Failure::Unread(error) => tell::cannot(rt, "read", input, error),
+        Failure::Early => tell::about(rt, input, "ended early"),
+        Failure::Unwritten(error) => {
+            tell::cannot(
+                rt,
+                "write",
+                arguments.output.shown(b"standard output"),
+                error,
+            );
         }
     }
 }
@@ -85,51 +67,32 @@ fn came_to_end<R: Env + Print + Eprint>(
 // Feeds a stream, and answers how many bytes were written if it came to its end.
 fn feed_through<R: Env + Print + Eprint>(
     rt: &R,
+    arguments: &Arguments,
     stream: Stream,
-    size: usize,
     input: &mut impl Read,
     output: &mut impl Write,
-    input_name: &[u8],
-    output_name: &[u8],
-) -> Option<u64>
-    requires { size ≤ 65536 }
-{
-    let mut piece = [0u8; feeding::PIECE];
-    let mut out = [0u8; feeding::OUTPUT];
-    let fed = feeding::feed_all(stream, size, &mut piece, &mut out, input, output);
-    let ended = came_to_end(
-        rt,
-        fed.ending,
-        arguments::shown(input_name, b"standard input"),
-        arguments::shown(output_name, b"standard output"),
-    );
-    if ended { Some(fed.written) } else { None }
+) -> Option<u64> {
+    match feeding::feed_all(stream, arguments.size, input, output) {
+        Ok(written) => Some(written),
+        Err(failure) => {
+            tell_failure(rt, arguments, failure);
+            None
+        }
+    }
 }
 
 // Feeds a stream into a new file. Answers whether all of it was written, has reached its device and was told.
 fn feed_file<R: Files + Env + Print + Eprint>(
     rt: &R,
+    arguments: &Arguments,
     stream: Stream,
-    size: usize,
     input: &mut impl Read,
-    file: R::File,
-    input_name: &[u8],
-    output_name: &[u8],
-) -> bool
-    requires { size ≤ 65536 }
-{
-    let mut output = file;
-    let fed = feed_through(
-        rt,
-        stream,
-        size,
-        input,
-        &mut output,
-        input_name,
-        output_name,
-    );
-    match fed {
-        Some(written) => files::finish(rt, output, output_name) && tell::done(rt, written),
+    mut output: R::File,
+) -> bool {
+    match feed_through(rt, arguments, stream, input, &mut output) {
+        Some(written) => {
+            files::finish(rt, output, arguments.output.bytes()) && tell::done(rt, written)
+        }
         None => false,
     }
 }
@@ -138,114 +101,55 @@ fn feed_file<R: Files + Env + Print + Eprint>(
 // written has gone out.
 fn feed_into<R: Files + Env + Print + Eprint>(
     rt: &R,
+    arguments: &Arguments,
     stream: Stream,
-    size: usize,
     input: &mut impl Read,
-    input_name: &[u8],
-    output_name: &[u8],
-)
-    requires { size ≤ 65536 }
-{
-    if arguments::is_standard(output_name) {
-        let fed = feed_through(
-            rt,
-            stream,
-            size,
-            input,
-            &mut io::writer(rt),
-            input_name,
-            output_name,
-        );
-        if let Some(written) = fed {
+) {
+    if arguments.output.is_standard() {
+        if let Some(written) = feed_through(rt, arguments, stream, input, &mut io::writer(rt)) {
             tell::done(rt, written);
         }
         return;
     }
-    match files::create(rt, output_name) {
+    let name = arguments.output.bytes();
+    match files::create(rt, name) {
         Ok(file) => {
-            if !feed_file(rt, stream, size, input, file, input_name, output_name) {
-                files::remove(rt, output_name);
+            if !feed_file(rt, arguments, stream, input, file) {
+                files::remove(rt, name);
             }
         }
-        Err(error) => tell::cannot(rt, "create", output_name, error),
+        Err(error) => tell::cannot(rt, "create", name, error),
     }
 }
 
 // Feeds a sample of a length.
 fn feed_from<R: Files + Env + Print + Eprint>(
     rt: &R,
-    direction: Direction,
-    size: usize,
+    arguments: &Arguments,
     input: &mut impl Read,
     length: usize,
-    input_name: &[u8],
-    output_name: &[u8],
-)
-    requires { size ≤ 65536 }
-{
-    if let Some(stream) = begin(rt, direction, length) {
-        feed_into(rt, stream, size, input, input_name, output_name);
+) {
+    if let Some(stream) = begin(rt, arguments.direction, length) {
+        feed_into(rt, arguments, stream, input);
     }
 }
 
 // Feeds from a file, or from standard input with its declared length.
-fn feed<R: Runtime>(
-    rt: &R,
-    direction: Direction,
-    size: usize,
-    input_name: &[u8],
-    output_name: &[u8],
-)
-    requires { size ≤ 65536 }
-{
-    if arguments::is_standard(input_name) {
-        let length = arguments::declared_length(rt).value as usize;
-        let mut input = rt.reader();
-        feed_from(
-            rt,
-            direction,
-            size,
-            &mut input,
-            length,
-            input_name,
-            output_name,
-        );
+fn feed<R: Runtime>(rt: &R, arguments: &Arguments) {
+    if let Some(length) = arguments.length {
+        feed_from(rt, arguments, &mut rt.reader(), length as usize);
         return;
     }
-    match files::open_sample(rt, input_name) {
-        Ok((file, length)) => {
-            let mut input = file;
-            feed_from(
-                rt,
-                direction,
-                size,
-                &mut input,
-                length,
-                input_name,
-                output_name,
-            );
-        }
-        Err(error) => tell::cannot(rt, "read", input_name, error),
+    let name = arguments.input.bytes();
+    match files::open_sample(rt, name) {
+        Ok((mut input, length)) => feed_from(rt, arguments, &mut input, length),
+        Err(error) => tell::cannot(rt, "read", name, error),
     }
 }
 
 fn main(rt: HostRuntime) {
-    let way = Way::read(&rt);
-    let size = arguments::piece_size(&rt);
-    let mut input = [0u8; arguments::ROOM];
-    let mut output = [0u8; arguments::ROOM];
-    let input_length = arguments::word(&rt, arguments::IN, &mut input);
-    let output_length = arguments::word(&rt, arguments::OUT, &mut output);
-    if !arguments::are_complete(&rt, &input[0..input_length]) || !way.good || size == 0 {
-        tell::usage(&rt);
-        return;
+    match Arguments::read(&rt) {
+        Some(arguments) => feed(&rt, &arguments),
+        None => tell::usage(&rt),
     }
-    let direction = way.direction;
-    feed(
-        &rt,
-        direction,
-        size,
-        &input[0..input_length],
-        &output[0..output_length],
-    );
 }

@@ -1,10 +1,12 @@
 // Lines that tell how it went: on standard output, unless that takes the sample, then on standard error. A line that cannot be
 // written is lost, but for the last, `done N`.
-use crate::{arguments, refusals};
+use crate::arguments;
+use crate::arguments::Word;
 use std::fmt::{Display, Formatter};
 use std::io::Write;
 use std::rt::Env;
 use std::{fmt, io};
+use stream::Refusal;
 
 // A name as it is told: what is no UTF-8 in it as U+FFFD.
 #[derive(Clone, Copy)]
@@ -26,8 +28,7 @@ impl Display for Name<'_> {
 fn reason<'a>(error: io::Error, text: &'a mut [u8; 256]) -> &'a str {
     let mut rest = &mut text[..];
     let _ = write!(rest, "{error}\0");
-    let end = text::word_at(text, 0, 0).end;
-    let words = str::from_utf8(&text[..end]).unwrap_or("");
+    let words = str::from_utf8(text::word(text, 0, 0)).unwrap_or("");
     match words.split_once(" (os error ") {
         Some((reason, _)) => reason,
         None => words,
@@ -44,9 +45,7 @@ fn fail(to: &impl Eprint, name: &[u8], error: io::Error) {
 
 // Whether standard output takes the sample.
 fn is_output_taken(env: &impl Env) -> bool {
-    let mut name = [0u8; arguments::ROOM];
-    let length = arguments::word(env, arguments::OUT, &mut name);
-    arguments::is_standard(&name[0..length])
+    Word::read(env, arguments::OUT).is_standard()
 }
 
 fn line<R: Env + Print + Eprint, T: Display + Drop>(rt: &R, text: T) -> io::Result<()> {
@@ -75,10 +74,10 @@ pub(crate) fn done<R: Env + Print + Eprint>(rt: &R, written: u64) -> bool {
     }
 }
 
-// `refused ANSWER: WORDS`.
-pub(crate) fn refused<R: Env + Print + Eprint>(rt: &R, answer: u8) {
-    let words = refusals::words(answer);
-    let _ = line(rt, format_args!("refused {answer}: {words}"));
+// `refused NUMBER: WORDS`.
+pub(crate) fn refused<R: Env + Print + Eprint>(rt: &R, refusal: Refusal) {
+    let number = refusal.number();
+    let _ = line(rt, format_args!("refused {number}: {refusal}"));
 }
 
 // `cannot VERB NAME`, for a call that failed; its reason goes to standard error.

@@ -2,59 +2,31 @@
 #![tactic(auto)]
 
 ghost use Rattle.std.specs.Prelude.{◌++◌, ◌≡◌};
-ghost use Rattle.octets.specs.Bytes.{filled};
-ghost use Rattle.track_spec.specs.Track.{zeros};
 ghost use Rattle.issuer_spec.specs.Issuer as spec;
 
-pub use issuer_spec::{Granted, Issuer, IvSize, Started, refusal};
+pub use issuer_spec::{Issuer, IvSize};
+pub use refusals::Refusal;
 use track_spec::StartVector;
-use track_spec::refusal::DONE;
-
-// The first eight bytes.
-fn first_eight(bytes: &[u8]) -> [u8; 8]
-    ensures { result ≡ filled 8 bytes.now }
-{
-    [
-        octets::byte_at(bytes, 0),
-        octets::byte_at(bytes, 1),
-        octets::byte_at(bytes, 2),
-        octets::byte_at(bytes, 3),
-        octets::byte_at(bytes, 4),
-        octets::byte_at(bytes, 5),
-        octets::byte_at(bytes, 6),
-        octets::byte_at(bytes, 7),
-    ]
-}
 
 // Starts an issuer from 8 or 16 bytes: 31.
-pub fn start(bytes: &[u8]) -> Started
-    ensures { result ≡ spec.start bytes.now }
+#[tactic(auto, using(octets::proofs::Bytes::filled_long), unfolding(issuer_spec::specs::Issuer::start, issuer_spec::specs::Issuer::start_rows, issuer_spec::specs::Issuer::started, octets::specs::Answers::answer))]
+pub fn start(bytes: &[u8]) -> Result<Issuer, Refusal>
+    ensures { spec.as_started result ≡ spec.start bytes.now }
 {
-    if bytes.len() == 8 {
-        return Started {
-            answer: DONE,
-            issuer: Issuer {
-                size: IvSize::Eight,
-                first: [0; 8],
-                counter: numbers::be64(bytes, 0),
-                used_up: false,
-            },
-        };
-    }
-    if bytes.len() == StartVector::SIZE {
-        return Started {
-            answer: DONE,
-            issuer: Issuer {
-                size: IvSize::Sixteen,
-                first: first_eight(bytes),
-                counter: numbers::be64(bytes, 8),
-                used_up: false,
-            },
-        };
-    }
-    Started {
-        answer: refusal::START,
-        issuer: Issuer::exhausted(),
+    match bytes.len() {
+        8 => Ok(Issuer {
+            size: IvSize::Eight,
+            first: [0; 8],
+            counter: numbers::be64(bytes, 0),
+            used_up: false,
+        }),
+        StartVector::SIZE => Ok(Issuer {
+            size: IvSize::Sixteen,
+            first: octets::filled(bytes),
+            counter: numbers::be64(bytes, 8),
+            used_up: false,
+        }),
+        _ => Err(Refusal::Start),
     }
 }
 
@@ -62,23 +34,25 @@ pub fn start(bytes: &[u8]) -> Started
 fn joined(a: [u8; 8], b: [u8; 8]) -> [u8; StartVector::SIZE]
     ensures { result ≡ a ++ b }
 {
-    [
-        a[0], a[1], a[2], a[3], a[4], a[5], a[6], a[7], b[0], b[1], b[2], b[3], b[4], b[5], b[6],
-        b[7],
-    ]
+    let mut out = [0; StartVector::SIZE];
+    out[..8].copy_from_slice(&a);
+    out[8..].copy_from_slice(&b);
+    out
 }
 
 // The start vector of a counter, filled out with zeros in size 8.
+#[tactic(auto, using(octets::proofs::BigEndian::big_endian), unfolding(issuer_spec::specs::Issuer::vector))]
 fn vector(size: IvSize, first: [u8; 8], counter: u64) -> StartVector
     ensures { result.0 ≡ spec.vector size first counter }
 {
     match size {
-        IvSize::Eight => StartVector::new(joined(numbers::bytes64(counter), [0; 8])),
-        IvSize::Sixteen => StartVector::new(joined(first, numbers::bytes64(counter))),
+        IvSize::Eight => StartVector(joined(counter.to_be_bytes(), [0; 8])),
+        IvSize::Sixteen => StartVector(joined(first, counter.to_be_bytes())),
     }
 }
 
 // By how much a sample of so many blocks advances the counter: in size 8 to the next one, in size 16 by its blocks.
+#[tactic(auto, unfolding(issuer_spec::specs::Issuer::advance))]
 fn advance(size: IvSize, blocks: u64) -> u64
     ensures { result ≡ spec.advance size blocks }
 {
@@ -89,25 +63,16 @@ fn advance(size: IvSize, blocks: u64) -> u64
 }
 
 // The issuer once all counters up to `last` are covered: it goes on with the next one, and after the largest it is used up.
+#[tactic(auto, unfolding(issuer_spec::specs::Issuer::after))]
 fn after(issuer: Issuer, last: u64) -> Issuer
     ensures { result ≡ spec.after issuer last }
 {
-    let mut next = issuer;
-    if last == u64::MAX {
-        next.used_up = true;
-    } else {
-        next.counter = last + 1;
-    }
-    next
-}
-
-fn refused(answer: u8, issuer: Issuer) -> Granted
-    ensures { result ≡ record { answer = answer; vector = record { 0 = zeros }; issuer = issuer } }
-{
-    Granted {
-        answer,
-        vector: StartVector::new([0; StartVector::SIZE]),
-        issuer,
+    match last.checked_add(1) {
+        Some(counter) => Issuer { counter, ..issuer },
+        None => Issuer {
+            used_up: true,
+            ..issuer
+        },
     }
 }
 
@@ -115,29 +80,25 @@ fn refused(answer: u8, issuer: Issuer) -> Granted
 fn bad_count(blocks: u64) -> bool
     ensures { result ≡ spec.bad_count blocks }
 {
-    blocks < 1 || Issuer::MOST_BLOCKS < blocks
+    !(1..=Issuer::MOST_BLOCKS).contains(&blocks)
 }
 
-// Grants a start vector for a sample of so many blocks: 19 and 20. A refusal hands out zeros and the issuer as it was.
-pub fn grant(issuer: Issuer, blocks: u64) -> Granted
-    ensures { result ≡ spec.grant issuer blocks }
+// Grants a start vector for a sample of so many blocks, and moves the issuer on: 19 and 20. A refusal leaves the issuer as it was.
+#[tactic(auto, unfolding(issuer_spec::specs::Issuer::grant, issuer_spec::specs::Issuer::grant_rows, issuer_spec::specs::Issuer::last_counter, octets::specs::Answers::answer))]
+pub fn grant(issuer: &mut Issuer, blocks: u64) -> Result<StartVector, Refusal>
+    ensures { spec.as_granted result issuer.new ≡ spec.grant issuer.old blocks }
 {
     if bad_count(blocks) {
-        return refused(refusal::COUNT, issuer);
+        return Err(Refusal::Count);
     }
     if issuer.used_up {
-        return refused(refusal::USED_UP, issuer);
+        return Err(Refusal::UsedUp);
     }
-    let size = issuer.size;
-    let first = issuer.first;
-    let past = advance(size, blocks) - 1;
-    if u64::MAX - issuer.counter < past {
-        return refused(refusal::USED_UP, issuer);
-    }
-    let last = issuer.counter + past;
-    Granted {
-        answer: DONE,
-        vector: vector(size, first, issuer.counter),
-        issuer: after(issuer, last),
-    }
+    let past = advance(issuer.size, blocks) - 1;
+    let Some(last) = issuer.counter.checked_add(past) else {
+        return Err(Refusal::UsedUp);
+    };
+    let granted = vector(issuer.size, issuer.first, issuer.counter);
+    *issuer = after(*issuer, last);
+    Ok(granted)
 }

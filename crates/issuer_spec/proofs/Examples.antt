@@ -5,7 +5,7 @@ use Prim.Native.Nat.{ℕ}
 use lib.ListN.{replicate}
 use Rattle.octets.specs.Answers.{answer}
 use Rattle.octets.specs.Bytes.{number, digits, filled}
-use Rattle.issuer_spec.specs.declared.Granted.{Granted}
+use Rattle.issuer_spec.specs.Issuer.{Granted}
 use Rattle.issuer_spec.specs.Issuer.{start_rows, started, start, vector, advance, last_counter, grant_rows, after, grant}
 use Rattle.issuer_spec.specs.Grants.{run}
 

@@ -1,10 +1,10 @@
 -- What a grant answers, by its table, and what follows from the answer.
-use mathlib.Core.Bool.{true, false, or-true}
+use mathlib.Core.Bool.{true, false}
 use mathlib.Core.Path.{◌≡◌}
-use Prim.Native.Nat.{ℕ, ◌≤◌, ◌<◌}
+use Prim.Native.Nat.{ℕ, ◌≤◌}
 use native.Mathlib.Omega.{arith}
 use lib.Dec.{ltb}
-use borrow.Author.Tests.{ltb-false, lt-ltb, le-ltb, ne_eqb}
+use borrow.Author.Tests.{ltb-false, le-ltb, ne_eqb}
 use Rattle.octets.specs.Answers.{answer}
 use Rattle.octets.proofs.Answers.{done_head, done_tail}
 use Rattle.octets.proofs.Tests.{or_false_left, or_false_right}
@@ -12,7 +12,7 @@ use Rattle.track_spec.specs.Track.{zeros}
 use Rattle.issuer_spec.specs.declared.IvSize.{IvSize}
 use Rattle.issuer_spec.specs.declared.IvSize.TheVariants.{Eight, Sixteen}
 use Rattle.issuer_spec.specs.declared.Issuer.{Issuer}
-use Rattle.issuer_spec.specs.declared.Granted.{Granted}
+use Rattle.issuer_spec.specs.Issuer.{Granted}
 use Rattle.issuer_spec.specs.Issuer.{largest, most_blocks, vector, advance, last_counter, bad_count, past_end, grant_rows, after, grant}
 
 pub advance-some : (s : IvSize) (n : ℕ) → 1 ≤ n → 1 ≤ advance s n
@@ -43,18 +43,10 @@ module _ (i : Issuer) (n : ℕ) where
 
   -- ---- The answer in each case.
 
-  pub count-refused : bad_count n ≡ true → answer (grant_rows i n) ≡ 19
-  unfolding grant_rows answer
-  count-refused h = rw h
-
   module _ (c : bad_count n ≡ false) where
     pub used_up_lem : i.used_up ≡ true → answer (grant_rows i n) ≡ 20
     unfolding grant_rows answer
     used_up_lem h = rw (c, h)
-
-    pub passes_largest : largest < last_counter i n → answer (grant_rows i n) ≡ 20
-    unfolding grant_rows answer
-    passes_largest h = rw (c, lt-ltb largest (last_counter i n) h, or-true i.used_up)
 
     pub fits : i.used_up ≡ false → last_counter i n ≤ largest → answer (grant_rows i n) ≡ 0
     unfolding grant_rows answer

@@ -3,7 +3,7 @@
 use Rattle.std.specs.Prelude.{cond, List, [], ◌∷◌, ◌≡◌, ℕ, zero, suc, ◌+◌, ◌-◌, ◌≤◌, ◌<◌, eqb, get_or}
 use Rattle.modes_spec.specs.Modes.{counter_at}
 use Rattle.issuer_spec.specs.declared.Issuer.{Issuer}
-use Rattle.issuer_spec.specs.declared.Granted.{Granted}
+use Rattle.issuer_spec.specs.Issuer.{Granted}
 use Rattle.issuer_spec.specs.Issuer.{largest, most_blocks, exhausted, start, vector, advance, grant}
 
 -- One grant after the other, each from the issuer that the one before handed back.

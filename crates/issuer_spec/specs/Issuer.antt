@@ -1,13 +1,27 @@
 -- Document 02, Ask 3: an issuer of start vectors for one KID and one IV size, its start (31) and its grants (19 and 20).
 use Rattle.std.specs.Prelude.{Bool, true, false, cond, not, ◌||◌, List, [], ◌∷◌, ◌++◌, ℕ, ◌+◌, ◌-◌, eqb, ltb, length, take, replicate}
+use Rattle.std.specs.declared.result.Result.{Result}
+use Rattle.std.specs.declared.result.Result.TheVariants.{Ok, Err}
+use Rattle.refusals.specs.declared.Refusal.{Refusal}
+use Rattle.refusals.specs.Refusals.{refusal_number}
 use Rattle.octets.specs.Answers.{Row, row, answer}
 use Rattle.octets.specs.Bytes.{number, digits}
+use Rattle.track_spec.specs.declared.StartVector.{StartVector}
 use Rattle.track_spec.specs.Track.{zeros}
 use Rattle.issuer_spec.specs.declared.IvSize.{IvSize}
 use Rattle.issuer_spec.specs.declared.IvSize.TheVariants.{Eight, Sixteen}
 use Rattle.issuer_spec.specs.declared.Issuer.{Issuer}
-use Rattle.issuer_spec.specs.declared.Started.{Started}
-use Rattle.issuer_spec.specs.declared.Granted.{Granted}
+
+-- What starting an issuer answers.
+pub record Started : Type 0 where
+  pub answer : ℕ
+  pub issuer : Issuer
+
+-- What a grant answers: the start vector, and the issuer to use next.
+pub record Granted : Type 0 where
+  pub answer : ℕ
+  pub vector : StartVector
+  pub issuer : Issuer
 
 -- The largest 64-bit number.
 abbrev pub largest : ℕ
@@ -34,6 +48,11 @@ unfoldable pub started : List ℕ → Issuer
 started bytes =
     cond (eqb (length bytes) 8) (issuer Eight (replicate 8 0) (number 8 bytes 0) false)
     (issuer Sixteen (take 8 bytes) (number 8 bytes 8) false)
+
+-- The answer of a start as a number and an issuer; that of a refusal is used up.
+abbrev pub as_started : Result Issuer Refusal → Started
+as_started (Ok i) = record { answer = 0; issuer = i }
+as_started (Err r) = record { answer = refusal_number r; issuer = exhausted }
 
 unfoldable pub start : List ℕ → Started
 start bytes =
@@ -73,6 +92,11 @@ grant_rows i n = row 19 (bad_count n) ∷ row 20 (past_end i n) ∷ []
 unfoldable pub after : Issuer → ℕ → Issuer
 after i last =
     cond (eqb last largest) (issuer i.size i.first i.counter true) (issuer i.size i.first (last + 1) i.used_up)
+
+-- The answer of a grant as a number and a vector, zeros for a refusal; and the issuer after it.
+abbrev pub as_granted : Result StartVector Refusal → Issuer → Granted
+as_granted (Ok v) i = record { answer = 0; vector = v; issuer = i }
+as_granted (Err r) i = record { answer = refusal_number r; vector = record { 0 = zeros }; issuer = i }
 
 -- A refusal changes nothing and hands out zeros.
 unfoldable pub grant : Issuer → ℕ → Granted

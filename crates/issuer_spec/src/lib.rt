@@ -1,12 +1,8 @@
 // An issuer of start vectors without a clock (document 02, Ask 3): its structures.
 #![tactic(auto)]
 
-pub mod refusal;
-
 ghost use Rattle.std.specs.Prelude.{◌≡◌};
 ghost use Rattle.issuer_spec.specs.Issuer as spec;
-
-use track_spec::StartVector;
 
 // How many bytes of a start vector the track's samples carry.
 #[derive(Clone, Copy)]
@@ -28,7 +24,7 @@ impl Issuer {
     // The most blocks that a grant may name; no accepted sample needs more.
     pub const MOST_BLOCKS: u64 = 1048576;
 
-    // The issuer of a refused start.
+    // An issuer that grants nothing, which stands where none was started.
     pub fn exhausted() -> Issuer
         ensures { result ≡ spec.exhausted }
     {
@@ -39,19 +35,4 @@ impl Issuer {
             used_up: true,
         }
     }
-}
-
-// What starting an issuer answers.
-#[derive(Clone, Copy)]
-pub struct Started {
-    pub answer: u8,
-    pub issuer: Issuer,
-}
-
-// What a grant answers: the start vector, and the issuer to use next.
-#[derive(Clone, Copy)]
-pub struct Granted {
-    pub answer: u8,
-    pub vector: StartVector,
-    pub issuer: Issuer,
 }

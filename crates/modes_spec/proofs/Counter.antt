@@ -1,12 +1,12 @@
 -- The counter block: none on is the IV, steps add up, and none occurs twice within 2^64 steps.
 use mathlib.Core.List.{List, ◌++◌}
-use mathlib.Core.Path.{◌≡◌, refl, sym, ap, ap₂, ◌∙◌}
+use mathlib.Core.Path.{◌≡◌, refl, sym, ap, ◌∙◌}
 use Prim.Native.Nat.{ℕ, ◌+◌, ◌%◌, ◌^◌, ◌≤◌, ◌<◌}
 use native.Mathlib.Omega.{arith}
 use lib.ListN.{length, get_or, take, drop, length-drop, take-append-drop}
 use lib.Seq.{take_at, length-take-le, take_all}
-use Rattle.octets.specs.Bytes.{list_of, number, digits}
-use Rattle.octets.proofs.Bytes.{number_below, number_digits, number-after, digits_number, part_list_of, list_of_get_d}
+use Rattle.octets.specs.Bytes.{number, digits}
+use Rattle.octets.proofs.Bytes.{number_below, number_digits, number-after, digits_number}
 use Rattle.modes_spec.specs.Modes.{counter_at}
 
 -- bytes 8 to 15 count, and bytes 0 to 7 stay
@@ -46,9 +46,3 @@ distinct iv l m n hm hn e =
     let s : (number 8 iv 8 + m) % 2 ^ 64 ≡ (number 8 iv 8 + n) % 2 ^ 64 =
     sym (count_at_lem iv l m) ∙ ap (λ (b : List ℕ). number 8 b 8) e ∙ count_at_lem iv l n in
     omega arith
-
--- eight bytes of one string and then those of another, by their elements
-pub assembled : (b c : List ℕ) → 8 ≤ length b → length c ≡ 8
-    → list_of 8 (λ i. get_or b i 0) ++ list_of 8 (λ i. get_or c i 0) ≡ take 8 b ++ c
-assembled b c l e =
-    ap₂ (λ (x y : List ℕ). x ++ y) (sym (part_list_of 8 b 0 l)) (ap (λ (n : ℕ). list_of n (λ i. get_or c i 0)) (sym e) ∙ list_of_get_d 0 c)

@@ -4,18 +4,18 @@
 mod runs;
 mod walk;
 
-ghost use Rattle.std.specs.Prelude.{[], ◌∷◌, ◌≡◌, ◌+◌, ◌%◌, ◌≤◌, leb, length, take};
+ghost use Rattle.std.specs.Prelude.{◌≡◌, ◌+◌, ◌%◌, ◌≤◌, leb, length, take};
 ghost use Rattle.aes.specs.Block.{encipher, decipher};
-ghost use Rattle.scheme.specs.Layout.{scheme_of, pattern_of, entry, entries, mask, count as counted};
+ghost use Rattle.scheme.specs.Layout.{mask, count as counted};
 ghost use Rattle.scheme.specs.Machine.{free, feed_sample};
 ghost use Rattle.scheme.specs.Part.{protected_entries, fits as fits_in, transformed};
 ghost use Rattle.scheme.specs.Walk.{left, SampleAsks};
-ghost use Rattle.subsample_spec.specs.Auxiliary.{limit, longest};
+ghost use Rattle.subsample_spec.specs.Auxiliary.{longest};
 
 use aes::RoundKeys;
 use modes::{Direction, ModeBlock};
 use scheme::{Pattern, Scheme};
-use subsample_spec::SubsampleMap;
+use subsample_spec::{Entry, SubsampleMap};
 use track_spec::Parameters;
 use walk::{Ciphering, Progress};
 
@@ -23,13 +23,11 @@ use walk::{Ciphering, Progress};
 fn within(end: usize, from: usize, size: usize) -> bool
     ensures { result ≡ leb (from + size) end }
 {
-    if end < from {
-        return false;
-    }
-    size <= end - from
+    from <= end && size <= end - from
 }
 
 // Whether `size` bytes from a position of a protected sample on can be ciphered where they lie.
+#[tactic(auto, using(scheme::proofs::Fitting::fits_is))]
 fn fits(
     parameters: Parameters,
     map: SubsampleMap,
@@ -40,60 +38,16 @@ fn fits(
     requires { parameters.protected ≡ 1 }
     ensures { result ≡ fits_in parameters map sample_length from size }
 {
-    if SubsampleMap::LONGEST_SAMPLE < sample_length {
-        return false;
-    }
-    let end = layout::total_length(map, sample_length);
-    if !within(end, from, size) {
-        return false;
-    }
-    if layout::held_at(parameters, map, sample_length, from) != 0 {
-        return false;
-    }
-    layout::held_at(parameters, map, sample_length, from + size) == 0
-}
-
-// The map of one entry, 0 clear.
-fn one_range(n: u32) -> SubsampleMap
-    ensures { (entries result.clear result.protected result.count ≡ entry 0 n ∷ []) × (result.count ≤ limit) }
-{
-    let mut protected = [0u32; SubsampleMap::LIMIT];
-    protected[0] = n;
-    SubsampleMap::new([0; SubsampleMap::LIMIT], protected, 1)
-}
-
-// The entries of a protected sample, as a map with at least one.
-fn written(map: SubsampleMap, sample_length: usize) -> SubsampleMap
-    requires { sample_length ≤ longest }
-    ensures { (entries result.clear result.protected result.count ≡ protected_entries map sample_length) × (result.count ≤ limit) }
-{
-    let count = map.count;
-    if count == 0 {
-        return one_range(sample_length as u32);
-    }
-    let clear = map.clear;
-    let protected = map.protected;
-    SubsampleMap::new(clear, protected, octets::least(count, SubsampleMap::LIMIT))
-}
-
-// How the ranges of a track are ciphered.
-fn ciphering(direction: Direction, parameters: Parameters) -> Ciphering
-    ensures { result ≡ record { direction = direction; scheme = scheme_of parameters.code; pattern = pattern_of parameters; iv = parameters.constant_iv } }
-{
-    let code = parameters.code;
-    let iv = parameters.constant_iv;
-    Ciphering {
-        direction,
-        scheme: Scheme::of(code),
-        pattern: Pattern::of(parameters),
-        iv,
-    }
+    sample_length <= SubsampleMap::LONGEST_SAMPLE
+        && within(layout::total_length(map, sample_length), from, size)
+        && layout::held_at(parameters, map, sample_length, from) == 0
+        && layout::held_at(parameters, map, sample_length, from + size) == 0
 }
 
 // Ciphers a part that fits.
+#[tactic(auto, unfolding(scheme::specs::Part::protected_entries))]
 fn cipher_part(
-    keys: RoundKeys,
-    how: Ciphering,
+    how: Ciphering<'_>,
     map: SubsampleMap,
     sample_length: usize,
     from: usize,
@@ -103,32 +57,24 @@ fn cipher_part(
     requires { (sample_length ≤ longest)
         × (SampleAsks how.scheme how.pattern (protected_entries map sample_length) from (length part.old)
         (counted (take from (mask how.scheme how.pattern (protected_entries map sample_length))) % 16)) }
-    ensures { feed_sample (encipher keys) (decipher keys) how.direction how.scheme how.pattern how.iv.0
+    ensures { feed_sample (encipher how.entry.keys.now) (decipher how.entry.keys.now) how.entry.direction how.entry.scheme how.entry.pattern
+        how.entry.iv.0
         (protected_entries map sample_length) (free from block.0) part.old
         ≡ left (from + length part.old) result.0 part.new }
 {
-    let scheme = how.scheme;
-    let pattern = how.pattern;
-    let used = layout::used_at(scheme, pattern, map, sample_length, from);
-    let entries = written(map, sample_length);
-    let clear = entries.clear;
-    let protected = entries.protected;
-    let count = entries.count;
-    let after = walk::sample_part(
-        keys,
-        how,
-        clear,
-        protected,
-        count,
-        from,
-        Progress { block, used },
-        part,
-    );
-    after.block
+    let used = layout::used_at(how.scheme, how.pattern, map, sample_length, from);
+    let progress = Progress { block, used };
+    let whole = [Entry {
+        clear: 0,
+        protected: sample_length as u32,
+    }];
+    let entries = if map.count == 0 { &whole } else { map.used() };
+    walk::sample_part(how, entries, from, progress, part).block
 }
 
 // Ciphers the bytes of a sample of some length from a position on where they lie, with the counter or chain block before them;
 // answers the block after them. Where they do not fit nothing changes.
+#[tactic(auto, using(scheme::proofs::Fitting::transformed_fits, scheme::proofs::Fitting::transformed_not, scheme::proofs::Fitting::transformed_clear))]
 pub fn transform(
     keys: RoundKeys,
     direction: Direction,
@@ -148,6 +94,12 @@ pub fn transform(
     if !fits(parameters, map, sample_length, from, part.len()) {
         return block;
     }
-    let how = ciphering(direction, parameters);
-    cipher_part(keys, how, map, sample_length, from, block, part)
+    let how = Ciphering {
+        keys: &keys,
+        direction,
+        scheme: Scheme::of(parameters.code),
+        pattern: Pattern::of(parameters),
+        iv: parameters.constant_iv,
+    };
+    cipher_part(how, map, sample_length, from, block, part)
 }

@@ -1,5 +1,5 @@
 // The runs of a protected range: from an offset on, up to where the bytes are all ciphered, or none of them is.
-ghost use Rattle.std.specs.Prelude.{◌≡◌, ℕ, ◌-◌, ◌^◌, ◌<◌};
+ghost use Rattle.std.specs.Prelude.{◌≡◌, ℕ, ◌^◌, ◌<◌};
 ghost use Rattle.scheme.specs.declared.Pattern.{Pattern};
 ghost use Rattle.scheme.specs.declared.Scheme.TheVariants.{Cbc1, Cens, Cbcs};
 ghost use Rattle.scheme.specs.Layout.{restarts as restarts_at};
@@ -8,27 +8,20 @@ ghost use Rattle.scheme.specs.Walk.{RunAt};
 use modes::ModeBlock;
 use scheme::{Pattern, Scheme};
 
+// Where a run ends, and whether it is ciphered; a run of either kind has an end.
 #[derive(Clone, Copy)]
 pub(crate) struct Run {
     pub ciphered: bool,
     pub end: usize,
 }
 
-// The difference, or 0.
-pub(crate) fn less(a: usize, b: usize) -> usize
-    ensures { result ≡ a - b }
-{
-    if b < a { a - b } else { 0 }
-}
-
 // Whether the chain starts anew in the block at an offset of a range.
+#[tactic(auto, unfolding(scheme::specs::Layout::restarts))]
 pub(crate) fn restarts(scheme: Scheme, o: usize) -> bool
     ensures { (n : ℕ) → result ≡ restarts_at scheme n o }
 {
     match scheme {
-        Scheme::Cenc => false,
-        Scheme::Cbc1 => false,
-        Scheme::Cens => false,
+        Scheme::Cenc | Scheme::Cbc1 | Scheme::Cens => false,
         Scheme::Cbcs => o / ModeBlock::SIZE == 0,
     }
 }
@@ -75,12 +68,12 @@ fn pattern_run(pattern: Pattern, n: usize, o: usize) -> Run
     if nth < crypt {
         Run {
             ciphered: true,
-            end: octets::least((first + crypt) * ModeBlock::SIZE, whole),
+            end: ((first + crypt) * ModeBlock::SIZE).min(whole),
         }
     } else {
         Run {
             ciphered: false,
-            end: octets::least((first + period) * ModeBlock::SIZE, whole),
+            end: ((first + period) * ModeBlock::SIZE).min(whole),
         }
     }
 }
@@ -96,7 +89,6 @@ pub(crate) fn run_at(scheme: Scheme, pattern: Pattern, n: usize, o: usize) -> Ru
             end: n,
         },
         Scheme::Cbc1 => whole_run(n, o),
-        Scheme::Cens => pattern_run(pattern, n, o),
-        Scheme::Cbcs => pattern_run(pattern, n, o),
+        Scheme::Cens | Scheme::Cbcs => pattern_run(pattern, n, o),
     }
 }

@@ -1,10 +1,10 @@
 -- How far a sample opened in pieces has come: the loop's invariant, its beginning, one piece more, and its end.
-use mathlib.Core.List.{List, [], ◌∷◌, ◌++◌, append_assoc}
+use mathlib.Core.List.{List, [], ◌∷◌, ◌++◌, append_assoc, append-nil}
 use mathlib.Core.Path.{◌≡◌, refl, sym, ap, ◌∙◌}
 use Prim.Native.Nat.{ℕ, ◌+◌, ◌-◌, ◌^◌, ◌≤◌, ◌<◌}
 use native.Mathlib.Omega.{arith}
 use lib.ListN.{length, take, drop, length-append, length-drop, take-append-drop}
-use lib.Seq.{length-take-le, take-add, take_all, take_at, drop_at, drop-drop}
+use lib.Seq.{length-take-le, take_all, take_at, drop_at, drop-drop}
 use borrow.Author.Tests.{eq-eqb, ne_eqb, lt-ltb, le-ltb}
 use Rattle.octets.specs.Answers.{answer}
 use Rattle.modes_spec.specs.declared.Direction.TheVariants.{Open}
@@ -12,7 +12,7 @@ use Rattle.sample_spec.specs.Sample.{Inputs, OfBytes, iv_of, sample_rows}
 use Rattle.sample_spec.proofs.RoundTrip.{length-after}
 use Rattle.stream_spec.specs.declared.Declared.{Declared}
 use Rattle.stream_spec.specs.declared.Stream.{Stream}
-use Rattle.stream_spec.specs.declared.Started.{Started}
+use Rattle.stream_spec.specs.Stream.{Started}
 use Rattle.stream_spec.specs.Stream.{held_by, declared_by, start, due, fed_by, feed, output_after, end}
 use Rattle.stream_spec.specs.Demand3.{Feeding, Ending, Reply, count_at, due_at, feeding, ending, reply_at, piece_at, make}
 use Rattle.stream_spec.proofs.Accepted.{rules}
@@ -64,12 +64,12 @@ module _ (c : Call) where
   abbrev held : ℕ → ℕ
   held x = held_by q x
 
-  -- the record after the first x bytes, and the bytes released
-  abbrev record_at : ℕ → Stream
-  record_at x = at q iv (take x xs)
+  -- the record after the bytes of some pieces, and the bytes released
+  abbrev record_at : List ℕ → Stream
+  record_at seen = at q iv seen
 
-  abbrev released_at : ℕ → List ℕ
-  released_at x = (fed q iv (take x xs)).released
+  abbrev released_at : List ℕ → List ℕ
+  released_at seen = (fed q iv seen).released
 
   -- What a call says that isn't refused, and what holds of any: bytes are below 256, lengths fit 64 bits.
   pub record Accepted : Type 0 where
@@ -78,13 +78,14 @@ module _ (c : Call) where
     pub room : n ≤ length out₀
     pub output_fits : length out₀ < 2 ^ 64
 
-  -- The first x bytes were fed, and what they release, d bytes, stands in front of the output.
-  pub record Progress (out : List ℕ) (t : Stream) (x d : ℕ) : Type 0 where
+  -- All but the rest was fed, and what that releases, d bytes, stands in front of the output.
+  pub record Progress (out : List ℕ) (t : Stream) (rest : List ℕ) (d : ℕ) : Type 0 where
     pub call : Accepted
-    pub within : x ≤ n
-    pub stream : t ≡ record_at x
-    pub done : d ≡ length (released_at x)
-    pub output : out ≡ released_at x ++ drop d out₀
+    pub seen : List ℕ
+    pub whole : xs ≡ seen ++ rest
+    pub stream : t ≡ record_at seen
+    pub done : d ≡ length (released_at seen)
+    pub output : out ≡ released_at seen ++ drop d out₀
 
   module _ (k : Accepted) where
     done_rows : answer (sample_rows i n) ≡ 0
@@ -93,17 +94,13 @@ module _ (c : Call) where
     allowed : Rules q
     allowed = rules i n done_rows Open
 
-    sum_at : (x : ℕ) → x ≤ n → length (released_at x) + held x ≡ x
-    sum_at x l =
-        let e = length-take-le x xs l in
-        rw e at (at_sum q iv (take x xs))
-
-    pub begin : Progress out₀ (start Open i n).stream 0 0
+    pub begin : Progress out₀ (start Open i n).stream xs 0
     begin =
-        let z = none (released_at 0) (omega (arith, sum_at 0 (omega arith))) in
+        let z = none (released_at []) (omega (arith, at_sum q iv [])) in
         record {
           call = k;
-          within = omega arith;
+          seen = [];
+          whole = refl;
           stream = begun Open i n k.bytes k.started;
           done = sym (ap length z);
           output = rw z;
@@ -113,122 +110,115 @@ module _ (c : Call) where
     unfolding answered
     answer_is = rw (eq-eqb (answer (sample_rows i n)) 0 done_rows, le-ltb (length out₀) n k.room)
 
-    all_released : released_at n ++ drop (length (released_at n)) out₀ ≡ output i xs out₀
+    all_released : released_at xs ++ drop (length (released_at xs)) out₀ ≡ output i xs out₀
     unfolding output
-    all_released =
-        let a = ap (λ (ys : List ℕ). (fed q iv ys).released) (take_all n xs (omega arith)) in
-        let b = all_of_it Open i n k.bytes k.started xs refl in
-        rw (a ∙ b, length-after i Open xs, answer_is)
+    all_released = rw (all_of_it Open i n k.bytes k.started xs refl, length-after i Open xs, answer_is)
 
-    end_answer : (end (record_at n)).answer ≡ 0
+    end_answer : (end (record_at xs)).answer ≡ 0
     unfolding make reply_at ending
     end_answer =
-        let e = take_all n xs (omega arith) in
-        ap (λ (y : Reply). y.answer) (moves q iv (take n xs) allowed (omega (arith, ap length e)) Ending).reply
-        ∙ rw (e, eq-eqb n n refl)
+        ap (λ (y : Reply). y.answer) (moves q iv xs allowed (omega arith) Ending).reply ∙ rw (eq-eqb n n refl)
 
-  module _ {out : List ℕ} {t : Stream} {x d : ℕ} (g : Progress out t x d) where
+  module _ {out : List ℕ} {t : Stream} {rest : List ℕ} {d : ℕ} (g : Progress out t rest d) where
+    abbrev seen : List ℕ
+    seen = g.seen
+
+    within : length seen + length rest ≡ n
+    within = sym (ap length g.whole ∙ length-append seen rest)
+
     -- what is released is no more than was fed, and that fits
-    pub room : (d ≤ x) × (x ≤ length out₀)
-    room = (omega (arith, sum_at g.call x g.within, g.done), omega (arith, g.within, g.call.room))
+    pub room : d ≤ length out₀
+    room = omega (arith, at_sum q iv seen, g.done, within, g.call.room)
 
     -- the output keeps its length
     pub length_out : length out ≡ length out₀
     length_out = ap length g.output ∙ simp (length-append, length-drop) (omega (arith, g.done, room))
 
-    -- ---- One piece more, up to e.
+    -- ---- One piece more.
 
-    module _ (e : ℕ) (from : x ≤ e) (to : e ≤ n) where
-      abbrev piece : List ℕ
-      piece = take (e - x) (drop x xs)
-
+    module _ (piece left : List ℕ) (split : rest ≡ piece ++ left) where
       abbrev lent : List ℕ
       lent = take (length out - d) (drop d out)
 
       lent_is : lent ≡ drop d out₀
       lent_is =
-          let a : drop d out ≡ drop d out₀ = ap (drop d) g.output ∙ drop_at (released_at x) (drop d out₀) d (sym g.done) in
+          let a : drop d out ≡ drop d out₀ = ap (drop d) g.output ∙ drop_at (released_at seen) (drop d out₀) d (sym g.done) in
           rw a (take_all (length out - d) (drop d out₀) (simp length-drop (omega (arith, length_out))))
 
       room_is : length lent ≡ length out₀ - d
       room_is = rw lent_is (simp length-drop)
 
-      length_at : length (take x xs) ≡ x
-      length_at = length-take-le x xs g.within
+      piece_within : length seen + length piece ≤ n
+      piece_within = omega (arith, within, ap length split, length-append piece left)
 
-      length_piece : length piece ≡ e - x
-      length_piece = length-take-le (e - x) (drop x xs) (simp length-drop (omega arith))
+      whole_next : xs ≡ (seen ++ piece) ++ left
+      whole_next = g.whole ∙ ap (λ (y : List ℕ). seen ++ y) split ∙ sym (append_assoc seen piece left)
 
-      joined : take x xs ++ piece ≡ take e xs
-      joined =
-          let q : x + (e - x) ≡ e = omega arith in
-          rw q at (sym (take-add x (e - x) xs))
-
-      move : Moves q iv (take x xs) (Feeding piece lent)
-      move = moves q iv (take x xs) (allowed g.call) (omega (arith, length_at, g.within)) (Feeding piece lent)
+      move : Moves q iv seen (Feeding piece lent)
+      move = moves q iv seen (allowed g.call) (omega (arith, piece_within)) (Feeding piece lent)
 
       -- there is room for what the piece makes due
-      due_fits : due_at held x (e - x) ≤ length out₀ - d
+      due_fits : due_at held (length seen) (length piece) ≤ length out₀ - d
       unfolding due_at count_at
-      due_fits =
-          let q : x + (e - x) ≡ e = omega arith in
-          rw q (omega (arith, sum_at g.call x g.within, g.done, g.call.room))
+      due_fits = omega (arith, at_sum q iv seen, piece_within, g.done, g.call.room)
 
-      accepted : (feeding held n (length (take x xs)) (length piece) (length lent)).answer ≡ 0
+      accepted : (feeding held n (length seen) (length piece) (length lent)).answer ≡ 0
       unfolding feeding
       accepted =
           rw (
-            length_at,
-            length_piece,
             room_is,
-            le-ltb n (x + (e - x)) (omega arith),
-            le-ltb (length out₀ - d) (due_at held x (e - x)) due_fits,
+            le-ltb n (length seen + length piece) piece_within,
+            le-ltb (length out₀ - d) (due_at held (length seen) (length piece)) due_fits,
           )
 
-      answer_done : (feed t piece (length lent)).answer ≡ 0
+      pub answer_done : (feed t piece (length lent)).answer ≡ 0
       unfolding make reply_at
       answer_done = rw g.stream (ap (λ (y : Reply). y.answer) move.reply ∙ accepted)
 
-      stream_next : (feed t piece (length lent)).stream ≡ record_at e
+      stream_next : (feed t piece (length lent)).stream ≡ record_at (seen ++ piece)
       unfolding make piece_at
-      stream_next = rw g.stream (rw (accepted, joined) at move.stream)
+      stream_next = ap (λ (t : Stream). (feed t piece (length lent)).stream) g.stream ∙ rw accepted at move.stream
 
       module _ (o : List ℕ) (eo : o ≡ output_after t piece lent) (lo : length o ≡ length lent) where
-        released-next : released_at x ++ take (feed t piece (length lent)).released o ≡ released_at e
+        released-next : released_at seen ++ take (feed t piece (length lent)).released o ≡ released_at (seen ++ piece)
         unfolding make piece_at
-        released-next = rw (eo, g.stream) (rw (accepted, joined) at move.released)
+        released-next =
+            rw eo
+            (ap (λ (t : Stream). released_at seen ++ take (feed t piece (length lent)).released (output_after t piece lent)) g.stream
+            ∙ rw accepted at move.released)
 
         rest_next : drop (feed t piece (length lent)).released o ≡ drop (d + (feed t piece (length lent)).released) out₀
         rest_next =
             rest_stays t piece lent o eo lo answer_done ∙ ap (drop (feed t piece (length lent)).released) lent_is
             ∙ drop-drop (feed t piece (length lent)).released d out₀
 
-        done_next : d + (feed t piece (length lent)).released ≡ length (released_at e)
+        done_next : d + (feed t piece (length lent)).released ≡ length (released_at (seen ++ piece))
         done_next =
             let f = released_fits (feed t piece (length lent)) t piece (length lent) refl in
             let a = length-take-le (feed t piece (length lent)).released o (omega arith) in
-            sym (ap length (sym released-next) ∙ length-append (released_at x) (take (feed t piece (length lent)).released o) ∙ rw (a, ← g.done))
+            sym (ap length (sym released-next) ∙ length-append (released_at seen) (take (feed t piece (length lent)).released o) ∙ rw (a, ← g.done))
 
         -- the output after it: what was there before the lent part, and the lent part
         pub further : (after : List ℕ) → after ≡ take d out ++ o
-            → Progress after (feed t piece (length lent)).stream e (d + (feed t piece (length lent)).released)
+            → Progress after (feed t piece (length lent)).stream left (d + (feed t piece (length lent)).released)
         further after ea =
             let r = (feed t piece (length lent)).released in
-            let b : take d out ≡ released_at x = ap (take d) g.output ∙ take_at (released_at x) (drop d out₀) d (sym g.done) in
+            let b : take d out ≡ released_at seen = ap (take d) g.output ∙ take_at (released_at seen) (drop d out₀) d (sym g.done) in
             let c : o ≡ take r o ++ drop (d + r) out₀ = sym (take-append-drop r o) ∙ ap (λ (y : List ℕ). take r o ++ y) rest_next in
             record {
               call = g.call;
-              within = to;
+              seen = seen ++ piece;
+              whole = whole_next;
               stream = stream_next;
               done = done_next;
-              output = ea ∙ rw b (ap (λ (y : List ℕ). released_at x ++ y) c ∙ sym (append_assoc (released_at x) (take r o) (drop (d + r) out₀)) ∙ ap (λ (y : List ℕ). y ++ drop (d + r) out₀) released-next);
+              output = ea ∙ rw b (ap (λ (y : List ℕ). released_at seen ++ y) c ∙ sym (append_assoc (released_at seen) (take r o) (drop (d + r) out₀)) ∙ ap (λ (y : List ℕ). y ++ drop (d + r) out₀) released-next);
             }
 
     -- ---- The end.
 
-    pub ended : n ≤ x → ((end t).answer ≡ answered i xs out₀) × (out ≡ output i xs out₀)
+    pub ended : length rest ≡ 0 → ((end t).answer ≡ answered i xs out₀) × (out ≡ output i xs out₀)
     ended l =
-        let q : x ≡ n = omega (arith, g.within) in (
+        let q : seen ≡ xs = sym (rw (none rest l, append-nil) at g.whole) in (
           ap (λ (y : Stream). (end y).answer) g.stream ∙ rw q (end_answer g.call) ∙ sym (answer_is g.call),
           g.output ∙ rw (g.done, q) (all_released g.call),
         )

@@ -1,32 +1,26 @@
 // A sample opened in pieces of one size, from C: for measurements.
 #![tactic(auto)]
 
-ghost use Rattle.std.specs.Prelude.{◌≡◌, max, length};
+ghost use Rattle.std.specs.Prelude.{◌≡◌, length};
 ghost use Rattle.sample_spec.specs.Sample.{inputs};
 ghost use Rattle.stream_spec.specs.Stream as streams;
 ghost use Rattle.pieces.specs.Pieces as spec;
 
 use modes::Direction;
-use stream::refusal::OUTPUT;
-use stream::{Fed, Stream};
-use track::refusal::DONE;
+use sample::Inputs;
+use stream::{Refusal, Stream};
 
-fn at_least_one(n: usize) -> usize
-    ensures { result ≡ max n 1 }
-{
-    if n == 0 { 1 } else { n }
-}
-
-// Feeds a record by value, or one that is changed where it lies.
-fn feed(in_place: bool, stream: Stream, piece: &[u8], out: &mut [u8]) -> Fed
-    ensures { (result ≡ streams.feed stream piece.now (length out.old))
-        × (out.new ≡ streams.output_after stream piece.now out.old) }
+// Feeds a record by value, or one that is changed where it lies: C says which by a bool.
+fn feed(in_place: bool, stream: &mut Stream, piece: &[u8], out: &mut [u8]) -> Result<usize, Refusal>
+    ensures answer { streams.as_fed_in_place result stream.new ≡ streams.feed stream.old piece.now (length out.old) }
+    ensures output { out.new ≡ streams.output_after stream.old piece.now out.old }
 {
     if in_place {
-        in_place::feed_lent(stream, piece, out)
-    } else {
-        stream::feed(stream, piece, out)
+        return in_place::feed_in_place(stream, piece, out);
     }
+    let fed = stream::feed(*stream, piece, out)?;
+    *stream = fed.stream;
+    Ok(fed.released)
 }
 
 // Opens a sample in pieces of `size` bytes, at least one, into an output, by value or in place.
@@ -44,32 +38,23 @@ pub extern "C" fn pieces_open(
     ensures { (result ≡ spec.answered (inputs scheme.now track_box.now auxiliary.now key_record.now) «data».now out.old)
         × (out.new ≡ spec.output (inputs scheme.now track_box.now auxiliary.now key_record.now) «data».now out.old) }
 {
-    let started = stream::start(
-        Direction::Open,
-        scheme,
+    let inputs = Inputs {
+        code: scheme,
         track_box,
         auxiliary,
         key_record,
-        data.len(),
-    );
-    if started.answer != DONE {
-        return started.answer;
-    }
+    };
+    let mut stream = match stream::start(Direction::Open, inputs, data.len()) {
+        Ok(stream) => stream,
+        Err(refusal) => return refusal.number(),
+    };
     if out.len() < data.len() {
-        return OUTPUT;
+        return Refusal::Output.number();
     }
-    let most = at_least_one(size);
-    let mut stream = started.stream;
-    let mut at = 0;
     let mut done = 0;
-    while at < data.len() {
-        let end = at + octets::least(most, data.len() - at);
+    for piece in data.chunks(size.max(1)) {
         // Not refused: the output has room for the whole sample.
-        let fed = feed(in_place, stream, &data[at..end], &mut out[done..]);
-        let next = fed.stream;
-        stream = next;
-        done += fed.released;
-        at = end;
+        done += feed(in_place, &mut stream, piece, &mut out[done..]).unwrap_or(0);
     }
-    stream::end(stream).answer
+    refusals::number(&stream::end(stream))
 }

@@ -1,73 +1,106 @@
-// The lines: a row for each, its name and the signature of its words, and the function that answers it.
-ghost use Rattle.std.specs.Prelude.{◌≤◌, length};
-
-use crate::line::Ends;
-use crate::{issuers, line, samples, streams, track_boxes, volumes};
+// The lines: the name of each, the letters of its words, and the function that answers it.
+use crate::line::{self, Words};
+use crate::output::Output;
+use crate::{issuers, samples, streams, track_boxes, volumes};
 use modes::Direction;
 
-// The row that a line is of, counted from 0; as many as there are if it is of none.
-fn find(line: &[u8], rows: &[u8]) -> usize {
-    let mut i = 0;
-    let mut at = 0;
-    while at < rows.len() {
-        let row = text::word_at(rows, at, b'\n');
-        let from = row.start;
-        let end = row.end;
-        at = end + 1;
-        if line::fits(line, &rows[from..end]) {
-            return i;
-        }
-        i += 1;
+// What a line asks for.
+#[derive(Clone, Copy)]
+enum Call {
+    Box,
+    Write,
+    Auxiliary,
+    Lock,
+    Open,
+    Stream,
+    Record,
+    Issuer,
+    EmptyVolume,
+    CheckVolume,
+    VolumeRecord,
+    AddRecord,
+    DisposeRecord,
+}
+
+impl Call {
+    fn named(name: &[u8]) -> Option<Call> {
+        Some(match name {
+            b"box" => Call::Box,
+            b"write" => Call::Write,
+            b"aux" => Call::Auxiliary,
+            b"lock" => Call::Lock,
+            b"open" => Call::Open,
+            b"stream" => Call::Stream,
+            b"record" => Call::Record,
+            b"issuer" => Call::Issuer,
+            b"vempty" => Call::EmptyVolume,
+            b"vcheck" => Call::CheckVolume,
+            b"vrecord" => Call::VolumeRecord,
+            b"vadd" => Call::AddRecord,
+            b"vdispose" => Call::DisposeRecord,
+            _ => return None,
+        })
     }
-    i
+
+    // The letters of its words, and the letter of those that may follow.
+    fn letters(self) -> (&'static [u8], Option<u8>) {
+        match self {
+            Call::Box => (b"bb", None),
+            Call::Write => (b"fooooossr", None),
+            Call::Auxiliary => (b"bbnb", None),
+            Call::Lock | Call::Open => (b"bbbbb", None),
+            Call::Stream => (b"dbbbbn", Some(b'c')),
+            Call::Record => (b"dfopoossnnensssn", Some(b'c')),
+            Call::Issuer => (b"b", Some(b'n')),
+            Call::EmptyVolume => (b"r", None),
+            Call::CheckVolume => (b"b", None),
+            Call::VolumeRecord => (b"bn", None),
+            Call::AddRecord => (b"bbwwr", None),
+            Call::DisposeRecord => (b"bnw", None),
+        }
+    }
+
+    // The call of a line, none if it is malformed.
+    fn read(line: &[u8]) -> Option<Call> {
+        let call = Call::named(text::word(line, 0, b' '))?;
+        let (letters, more) = call.letters();
+        line::has_words(line, letters, more).then_some(call)
+    }
+
+    // Answers it. What it writes goes to `lent`.
+    fn run(
+        self,
+        to: &impl Print,
+        words: Words<'_>,
+        lent: &mut [u8; line::BYTES],
+        out: &mut Output,
+    ) {
+        match self {
+            Call::Box => track_boxes::read(words, out),
+            Call::Write => track_boxes::write(words, lent, out),
+            Call::Auxiliary => samples::auxiliary(words, out),
+            Call::Lock => samples::whole(Direction::Lock, words, lent, out),
+            Call::Open => samples::whole(Direction::Open, words, lent, out),
+            Call::Stream => streams::started(to, words, lent, out),
+            Call::Record => streams::given(to, words, lent, out),
+            Call::Issuer => issuers::grants(to, words, out),
+            Call::EmptyVolume => volumes::empty(words, lent, out),
+            Call::CheckVolume => volumes::check(words, out),
+            Call::VolumeRecord => volumes::record(words, out),
+            Call::AddRecord => volumes::add(words, lent, out),
+            Call::DisposeRecord => volumes::dispose(words, out),
+        }
+    }
 }
 
-// How many rows there are.
-pub const ROWS: usize = 13;
-
-// The row of a line, ROWS if it is malformed.
-pub(crate) fn row_of(line: &[u8]) -> usize {
-    find(
-        line,
-        b"box bb\nwrite fooooossr\naux bbnb\nlock bbbbb\nopen bbbbb\nstream dbbbbn c\nrecord dfopoossnnensssn c\nissuer b n\nvempty r\nvcheck b\nvrecord bn\nvadd bbwwr\nvdispose bnw",
-    )
-}
-
-// Answers a line.
-pub(crate) fn answer(to: &impl Print, row: usize, line: &[u8], out: &mut [u8], at: usize) -> usize {
+// Answers a line, and tells whether it is a call; it is malformed if not.
+pub(crate) fn answer(to: &impl Print, line: &[u8], out: &mut Output) -> bool {
+    let Some(call) = Call::read(line) else {
+        out.text(b"malformed");
+        return false;
+    };
     let mut bytes = [0u8; line::BYTES];
     let mut lent = [0u8; line::BYTES];
-    let ends = line::decode(line, &mut bytes);
-    answer_by(to, row, line, &bytes, ends, &mut lent, out, at)
-}
-
-// By its row. The bytes of its words are at hand, and what a call writes goes to `lent`.
-fn answer_by(
-    to: &impl Print,
-    row: usize,
-    line: &[u8],
-    bytes: &[u8],
-    ends: Ends,
-    lent: &mut [u8],
-    out: &mut [u8],
-    at: usize,
-) -> usize
-    requires { 65536 ≤ length lent.old }
-{
-    match row {
-        0 => track_boxes::read(bytes, ends, out, at),
-        1 => track_boxes::write(line, bytes, ends, lent, out, at),
-        2 => samples::auxiliary(line, bytes, ends, out, at),
-        3 => samples::whole(Direction::Lock, line, bytes, ends, lent, out, at),
-        4 => samples::whole(Direction::Open, line, bytes, ends, lent, out, at),
-        5 => streams::started(to, line, bytes, ends, lent, out, at),
-        6 => streams::given(to, line, bytes, ends, lent, out, at),
-        7 => issuers::grants(to, line, bytes, ends, out, at),
-        8 => volumes::empty(line, lent, out, at),
-        9 => volumes::check(bytes, ends, out, at),
-        10 => volumes::record(line, bytes, ends, out, at),
-        11 => volumes::add(line, bytes, ends, lent, out, at),
-        12 => volumes::dispose(line, bytes, ends, out, at),
-        _ => text::put(b"malformed", out, at),
-    }
+    call.run(to, Words::read(line, &mut bytes), &mut lent, out);
+    true
 }

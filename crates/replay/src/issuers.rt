@@ -1,66 +1,25 @@
 // The line `issuer`: start vectors granted one after the other.
-use crate::line::Ends;
-use crate::{line, output};
+use crate::line::Words;
+use crate::output::Output;
 use issuer::Issuer;
+use track::StartVector;
 
-// The issuer after a grant, and where the text ends after the reply.
-#[derive(Drop)]
-struct Replied {
-    issuer: Issuer,
-    end: usize,
-}
-
-// ` NUMBER/VECTOR`.
-fn reply(issuer: Issuer, blocks: u64, out: &mut [u8], at: usize) -> Replied {
+// ` NUMBER/VECTOR`; the vector of a refused grant is zeros.
+fn reply(issuer: &mut Issuer, blocks: u64, out: &mut Output) {
     let granted = issuer::grant(issuer, blocks);
-    let vector = granted.vector;
-    let next = granted.issuer;
-    let at = output::byte(b' ', out, at);
-    let at = output::number_then(granted.answer as u64, b'/', out, at);
-    Replied {
-        issuer: next,
-        end: text::put_hex(&vector.bytes(), out, at),
-    }
+    out.byte(b' ');
+    out.answer_then(&granted, b'/');
+    out.hex(&granted.unwrap_or(StartVector([0; StartVector::SIZE])).0);
 }
 
-// The reply to each block count from a place of the line on.
-fn replies(
-    to: &impl Print,
-    start: Issuer,
-    line: &[u8],
-    first: usize,
-    out: &mut [u8],
-    at: usize,
-) -> usize {
-    let mut issuer = start;
-    let mut end = at;
-    let mut from = first;
-    while from < line.len() {
-        let word = text::word_at(line, from, b' ');
-        let start = word.start;
-        let past = word.end;
-        from = past + 1;
-        let blocks = text::read_number(&line[start..past], u64::MAX).value;
-        end = output::make_room(to, out, end);
-        let replied = reply(issuer, blocks, out, end);
-        let next = replied.issuer;
-        issuer = next;
-        end = replied.end;
+// `issuer START COUNT..`, answered by the start's answer and the reply to each count.
+pub(crate) fn grants(to: &impl Print, words: Words<'_>, out: &mut Output) {
+    let started = issuer::start(words.bytes(1));
+    out.answer(&started);
+    let mut issuer = started.unwrap_or(Issuer::exhausted());
+    for count in words.line().split(|b| *b == b' ').skip(2) {
+        out.make_room(to);
+        let blocks = text::read_number(count, u64::MAX).unwrap_or(0);
+        reply(&mut issuer, blocks, out);
     }
-    end
-}
-
-// `issuer START COUNT..`, answered by the start's answer and the replies.
-pub(crate) fn grants(
-    to: &impl Print,
-    line: &[u8],
-    bytes: &[u8],
-    ends: Ends,
-    out: &mut [u8],
-    at: usize,
-) -> usize {
-    let started = issuer::start(line::bytes(bytes, ends, 1));
-    let issuer = started.issuer;
-    let at = output::number(started.answer as u64, out, at);
-    replies(to, issuer, line, text::word_start(line, 2, b' '), out, at)
 }

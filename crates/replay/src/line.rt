@@ -1,50 +1,52 @@
-// The words of a line, parted by single spaces: whether they are those of a signature, and what they hold.
+// The words of a line, parted by single spaces: whether they are those that its name calls for, and what they hold.
+ghost use Rattle.std.specs.Prelude.{◌≤◌, ◌<◌};
+
 use modes::Direction;
 use subsample::SubsampleMap;
 
 // The most bytes that a line lends for output.
 pub const ROOM: u64 = 65536;
 
-// A letter of a signature says what a word holds:
+// The direction that a word names.
+fn direction(word: &[u8]) -> Option<Direction> {
+    match word {
+        b"lock" => Some(Direction::Lock),
+        b"open" => Some(Direction::Open),
+        _ => None,
+    }
+}
+
+// A letter says what a word holds:
 // `b` bytes, `f` four of them, `s` sixteen; `n` a number, `o` one of 8 bits, `h` of 16, `w` of 32, `r` of bytes lent; `d` a direction.
 fn is_simple(letter: u8, word: &[u8]) -> bool {
     match letter {
         b'b' => text::is_bytes(word),
         b'f' => word.len() == 8 && text::is_bytes(word),
         b's' => word.len() == 32 && text::is_bytes(word),
-        b'n' => text::read_number(word, u64::MAX).good,
-        b'o' => text::read_number(word, 255).good,
-        b'h' => text::read_number(word, 65535).good,
-        b'w' => text::read_number(word, 4294967295).good,
-        b'r' => text::read_number(word, ROOM).good,
-        b'd' => octets::same(word, b"lock") || octets::same(word, b"open"),
+        b'n' => text::read_number(word, u64::MAX).is_some(),
+        b'o' => text::read_number(word, 255).is_some(),
+        b'h' => text::read_number(word, 65535).is_some(),
+        b'w' => text::read_number(word, 4294967295).is_some(),
+        b'r' => text::read_number(word, ROOM).is_some(),
+        b'd' => direction(word).is_some(),
         _ => false,
     }
 }
 
 // Two values with a byte between them.
 fn is_pair(word: &[u8], parting: u8, first: u8, second: u8) -> bool {
-    let end = text::word_at(word, 0, parting).end;
-    if end == word.len() {
-        return false;
+    match word.iter().position(|b| *b == parting) {
+        Some(end) => is_simple(first, &word[..end]) && is_simple(second, &word[end + 1..]),
+        None => false,
     }
-    let next = end + 1;
-    is_simple(first, &word[0..end]) && is_simple(second, &word[next..])
 }
 
 // All entries of a map, joined by commas.
 fn is_map(word: &[u8]) -> bool {
-    let mut at = 0;
-    for _ in 0..SubsampleMap::LIMIT {
-        let entry = text::word_at(word, at, b',');
-        let from = entry.start;
-        let end = entry.end;
-        if !is_pair(&word[from..end], b':', b'h', b'w') {
-            return false;
-        }
-        at = end + 1;
-    }
-    word.len() < at
+    word.split(|b| *b == b',').count() == SubsampleMap::LIMIT
+        && word
+            .split(|b| *b == b',')
+            .all(|entry| is_pair(entry, b':', b'h', b'w'))
 }
 
 // Beside these, `p` two numbers of 8 bits joined by a colon, `e` the entries of a map, `c` a call on a stream.
@@ -52,39 +54,22 @@ fn is(letter: u8, word: &[u8]) -> bool {
     match letter {
         b'p' => is_pair(word, b':', b'o', b'o'),
         b'e' => is_map(word),
-        b'c' => octets::same(word, b"end") || is_pair(word, b'/', b'b', b'r'),
+        b'c' => word == b"end".as_slice() || is_pair(word, b'/', b'b', b'r'),
         _ => is_simple(letter, word),
     }
 }
 
-// Whether a line is one of a row: `NAME SIGNATURE`, or `NAME SIGNATURE LETTER` where any number of words may follow that hold what the
-// letter says.
-pub(crate) fn fits(line: &[u8], row: &[u8]) -> bool {
-    let name = text::word(row, 0, b' ');
-    let signature = text::word(row, 1, b' ');
-    let more = octets::byte_at(text::word(row, 2, b' '), 0);
-    octets::same(text::word(line, 0, b' '), name) && has_words(line, signature, more)
-}
-
-fn has_words(line: &[u8], signature: &[u8], more: u8) -> bool {
-    let mut count = 0;
-    let mut at = text::word_at(line, 0, b' ').end;
-    while at < line.len() {
-        let word = text::word_at(line, at + 1, b' ');
-        let from = word.start;
-        let end = word.end;
-        let letter = if count < signature.len() {
-            signature[count]
-        } else {
-            more
-        };
-        if !is(letter, &line[from..end]) {
-            return false;
+// Whether the words behind a line's name hold what letters say, a letter each; any number of words may follow that hold what `more`
+// says, if there is such a letter.
+pub(crate) fn has_words(line: &[u8], letters: &[u8], more: Option<u8>) -> bool {
+    let mut letters = letters.iter().copied();
+    for word in line.split(|b| *b == b' ').skip(1) {
+        match letters.next().or(more) {
+            Some(letter) if is(letter, word) => {}
+            _ => return false,
         }
-        count += 1;
-        at = end;
     }
-    signature.len() <= count
+    letters.next().is_none()
 }
 
 // As many bytes as a line can hold.
@@ -93,49 +78,75 @@ pub const BYTES: usize = 131072;
 // How many words of a line may hold bytes, its name and its list at the end left out.
 const WORDS: usize = 17;
 
-// Where the bytes of each word end in a buffer.
-pub type Ends = [usize; WORDS];
+// A line, the bytes of its first words one after the other, and where those of each word start.
+#[derive(Clone, Copy)]
+pub struct Words<'a> {
+    line: &'a [u8],
+    bytes: &'a [u8],
+    starts: [usize; WORDS + 1],
+}
 
-// Puts the bytes of a line's words into a buffer, one after the other. A word that is no byte string has none.
-pub(crate) fn decode(line: &[u8], bytes: &mut [u8]) -> Ends {
-    let mut ends = [0; WORDS];
-    let mut at = 0;
-    let mut end = 0;
-    for i in 0..WORDS {
-        let word = text::word_at(line, at, b' ');
-        let from = word.start;
-        let to = word.end;
-        end = text::read_bytes(&line[from..to], bytes, end);
-        ends[i] = end;
-        at = to + 1;
+impl<'a> Words<'a> {
+    // The words of a line, with a buffer for their bytes. A word that is no byte string has none.
+    pub(crate) fn read(line: &'a [u8], bytes: &'a mut [u8; BYTES]) -> Words<'a> {
+        let mut starts = [0; WORDS + 1];
+        let mut end = 0;
+        for (start, word) in starts[1..].iter_mut().zip(line.split(|b| *b == b' ')) {
+            end = text::read_bytes(word, bytes, end);
+            *start = end;
+        }
+        Words {
+            line,
+            bytes,
+            starts,
+        }
     }
-    ends
+
+    // The whole line.
+    pub(crate) fn line(&self) -> &'a [u8] {
+        self.line
+    }
+
+    // A word, counted from the name.
+    pub(crate) fn word(&self, word: usize) -> &'a [u8] {
+        text::word(self.line, word, b' ')
+    }
+
+    pub(crate) fn bytes(&self, word: usize) -> &'a [u8]
+        requires { word < 17 }
+    {
+        part(self.bytes, self.starts[word], self.starts[word + 1])
+    }
+
+    pub(crate) fn number(&self, word: usize, largest: u64) -> u64
+        ensures { result ≤ largest }
+    {
+        text::number_at(self.line, word, b' ', largest).unwrap_or(0)
+    }
+
+    // A number of 8 bits.
+    pub(crate) fn byte(&self, word: usize) -> u8 {
+        self.number(word, 255) as u8
+    }
+
+    pub(crate) fn length(&self, word: usize) -> usize {
+        self.number(word, u64::MAX) as usize
+    }
+
+    // How many bytes are lent for output.
+    pub(crate) fn room(&self, word: usize) -> usize
+        ensures { result ≤ 65536 }
+    {
+        self.number(word, ROOM) as usize
+    }
+
+    // The direction that the second word names.
+    pub(crate) fn direction(&self) -> Direction {
+        direction(self.word(1)).unwrap_or(Direction::Open)
+    }
 }
 
 // A part of a byte string, empty where there is no such part.
 pub(crate) fn part(s: &[u8], from: usize, end: usize) -> &[u8] {
-    if from <= end {
-        if end <= s.len() {
-            return &s[from..end];
-        }
-    }
-    &s[0..0]
-}
-
-// The bytes of a word behind the first.
-pub(crate) fn bytes(buffer: &[u8], ends: Ends, word: usize) -> &[u8] {
-    if 0 < word {
-        if word < WORDS {
-            return part(buffer, ends[word - 1], ends[word]);
-        }
-    }
-    &buffer[0..0]
-}
-
-// The direction that the second word names.
-pub(crate) fn direction(line: &[u8]) -> Direction {
-    if octets::same(text::word(line, 1, b' '), b"lock") {
-        return Direction::Lock;
-    }
-    Direction::Open
+    s.get(from..end).unwrap_or(&[])
 }

@@ -1,86 +1,83 @@
 // The lines `aux`, `lock` and `open`: auxiliary data and whole samples.
-use crate::line::Ends;
-use crate::{line, output};
+ghost use Rattle.std.specs.Prelude.{◌<◌};
+
+use crate::line;
+use crate::line::Words;
+use crate::output::Output;
 use modes::Direction;
-use subsample::SubsampleMap;
+use refusals::Refusal;
+use sample::Inputs;
+use subsample::{Auxiliary, SubsampleMap};
+use track::StartVector;
 
-// A comma before each entry but the first.
-fn put_comma(i: usize, out: &mut [u8], at: usize) -> usize {
-    if i == 0 {
-        return at;
-    }
-    output::byte(b',', out, at)
-}
-
-// `CLEAR:PROTECTED`.
-fn put_entry(clear: u16, protected: u32, out: &mut [u8], at: usize) -> usize {
-    let at = output::number_then(clear as u64, b':', out, at);
-    output::number(protected as u64, out, at)
-}
-
-// The entries that count, joined by commas.
-fn put_entries(map: SubsampleMap, out: &mut [u8], at: usize) -> usize {
-    let count = map.count;
-    let clear = map.clear;
-    let protected = map.protected;
-    let mut end = at;
-    for i in 0..SubsampleMap::LIMIT {
-        if count <= i {
-            return end;
+// The entries that count, `CLEAR:PROTECTED`, joined by commas.
+fn put_entries(map: SubsampleMap, out: &mut Output) {
+    for (i, entry) in map.used().iter().enumerate() {
+        if 0 < i {
+            out.byte(b',');
         }
-        end = put_comma(i, out, end);
-        end = put_entry(clear[i], protected[i], out, end);
+        out.number_then(entry.clear.into(), b':');
+        out.number(entry.protected.into());
     }
-    end
 }
 
 // `COUNT ENTRIES`.
-pub(crate) fn put_map(map: SubsampleMap, out: &mut [u8], at: usize) -> usize {
-    let at = output::number_then(map.count as u64, b' ', out, at);
+pub(crate) fn put_map(map: SubsampleMap, out: &mut Output) {
+    out.number_then(map.count as u64, b' ');
     if map.count == 0 {
-        return output::byte(b'-', out, at);
+        out.byte(b'-');
     }
-    put_entries(map, out, at)
+    put_entries(map, out);
 }
 
-// `aux CODE BOX LENGTH AUX`, answered `NUMBER COUNT ENTRIES IV`.
-pub(crate) fn auxiliary(line: &[u8], bytes: &[u8], ends: Ends, out: &mut [u8], at: usize) -> usize {
+// `aux CODE BOX LENGTH AUX`, answered `NUMBER COUNT ENTRIES IV`; what is refused has no entries and an IV of zeros.
+pub(crate) fn auxiliary(words: Words<'_>, out: &mut Output) {
     let read = subsample::read(
-        line::bytes(bytes, ends, 1),
-        line::bytes(bytes, ends, 2),
-        line::bytes(bytes, ends, 4),
-        text::number_at(line, 3, b' ', u64::MAX) as usize,
+        words.bytes(1),
+        words.bytes(2),
+        words.bytes(4),
+        words.length(3),
     );
-    let map = read.map;
-    let iv = read.iv;
-    let at = output::number_then(read.answer as u64, b' ', out, at);
-    let at = put_map(map, out, at);
-    let at = output::byte(b' ', out, at);
-    text::put_hex(&iv.bytes(), out, at)
+    let nothing = Auxiliary {
+        map: SubsampleMap::empty(),
+        iv: StartVector([0; StartVector::SIZE]),
+    };
+    out.answer_then(&read, b' ');
+    let Auxiliary { map, iv } = read.unwrap_or(nothing);
+    put_map(map, out);
+    out.byte(b' ');
+    out.hex(&iv.0);
 }
 
 // `lock CODE BOX AUX KEYS SAMPLE` and `open ..`, answered `NUMBER BYTES`.
 pub(crate) fn whole(
     direction: Direction,
-    line: &[u8],
-    bytes: &[u8],
-    ends: Ends,
-    lent: &mut [u8],
-    out: &mut [u8],
-    at: usize,
-) -> usize {
-    let end = text::read_bytes(text::word(line, 5, b' '), lent, 0);
-    let answer = transform(direction, bytes, ends, &mut lent[0..end]);
-    output::answer(answer, line::part(lent, 0, end), out, at)
+    words: Words<'_>,
+    lent: &mut [u8; line::BYTES],
+    out: &mut Output,
+) {
+    let end = text::read_bytes(words.word(5), lent, 0);
+    let sample = &mut lent[..end];
+    let answer = transform(direction, inputs(words, 1), sample);
+    out.answer_then(&answer, b' ');
+    out.hex(sample);
 }
 
-fn transform(direction: Direction, bytes: &[u8], ends: Ends, sample: &mut [u8]) -> u8 {
-    let code = line::bytes(bytes, ends, 1);
-    let track_box = line::bytes(bytes, ends, 2);
-    let auxiliary = line::bytes(bytes, ends, 3);
-    let keys = line::bytes(bytes, ends, 4);
+// The inputs of a sample: CODE, BOX, AUX and KEYS, the words from a place on.
+pub(crate) fn inputs(words: Words<'_>, first: usize) -> Inputs<'_>
+    requires { first < 14 }
+{
+    Inputs {
+        code: words.bytes(first),
+        track_box: words.bytes(first + 1),
+        auxiliary: words.bytes(first + 2),
+        key_record: words.bytes(first + 3),
+    }
+}
+
+fn transform(direction: Direction, inputs: Inputs, sample: &mut [u8]) -> Result<(), Refusal> {
     match direction {
-        Direction::Lock => sample::lock(code, track_box, auxiliary, keys, sample),
-        Direction::Open => sample::open(code, track_box, auxiliary, keys, sample),
+        Direction::Lock => sample::lock(inputs, sample),
+        Direction::Open => sample::open(inputs, sample),
     }
 }

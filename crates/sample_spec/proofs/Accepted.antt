@@ -19,13 +19,14 @@ use Rattle.track_spec.specs.Track.{known, has_constant, allowed, fields_from, fi
 use Rattle.track_spec.proofs.Fields.{constant_length, constant_bytes}
 use Rattle.track_spec.proofs.RoundTrip.{accepted}
 use Rattle.subsample_spec.specs.declared.SubsampleMap.{SubsampleMap}
+use Rattle.subsample_spec.proofs.Counting.{length-places}
 use Rattle.subsample_spec.specs.Auxiliary.{limit, longest, map_rows, map_read, iv_length, iv_read, auxiliary_rows}
 use Rattle.scheme.specs.Layout.{total}
 use Rattle.scheme.specs.Part.{entries_of, ciphered, fits, transformed, Begins}
 use Rattle.scheme.proofs.Allowed.{cbcs_constant, protected_total, accepted-total}
 use Rattle.scheme.proofs.Under.{clear_ciphered, fed_whole}
 use Rattle.scheme.proofs.Fitting.{fits_whole, transformed_clear}
-use Rattle.sample_spec.specs.declared.InputsRead.{InputsRead}
+use Rattle.sample_spec.specs.Sample.{InputsRead}
 use Rattle.sample_spec.specs.Sample.{Inputs, OfBytes, parameters_of, key_of, map_of, iv_of, sample_rows, handed_out, read_inputs, ciphered_by, sample_after}
 use Rattle.sample_spec.proofs.Tables.{box_accepted, auxiliary_accepted, inputs-accepted}
 
@@ -89,17 +90,13 @@ module _ (i : Inputs) (n : ℕ) (h : answer (sample_rows i n) ≡ 0) where
   unfolding auxiliary_rows map_of
   map-accepted = done_tail 8 _ _ (omega arith) (done_tail 7 _ _ (omega arith) data_accepted)
 
-  clear_places : length m.clear ≡ limit
+  as_many_places : length m.entries ≡ limit
   unfolding map_of map_read
-  clear_places = filled-length limit _
-
-  protected_places : length m.protected ≡ limit
-  unfolding map_of map_read
-  protected_places = filled-length limit _
+  as_many_places = length-places _
 
   -- the entries call for as many bytes as the sample has
   pub accepted-length : total (entries_of p m n) ≡ n
-  accepted-length = accepted-total p m n clear_places protected_places map-accepted
+  accepted-length = accepted-total p m n as_many_places map-accepted
 
   module _ (b : OfBytes i) where
     -- the IV is one to begin with
@@ -122,7 +119,7 @@ module _ (i : Inputs) (n : ℕ) (h : answer (sample_rows i n) ≡ 0) where
         go true e =
             let one : p.protected ≡ 1 = eqb-true p.protected 1 e in
             let f : fits p m n 0 n ≡ true =
-            fits_whole p m n one length-allowed (protected_total p m n clear_places protected_places map-accepted) in
+            fits_whole p m n one length-allowed (protected_total p m n as_many_places map-accepted) in
             rw (l, f) (rw l at (fed_whole E D sE sD d p m (iv_of i) begins xs (rw l (sym accepted-length))))
         go false e =
             (transformed_clear E D d p m n 0 (iv_of i) xs e).0 ∙ sym (clear_ciphered E D d p m n e (iv_of i) xs l)

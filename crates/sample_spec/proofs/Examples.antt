@@ -14,7 +14,7 @@ use Rattle.modes_spec.specs.Modes.{xors, block_out, cbc_blocks, cbc}
 use Rattle.modes_spec.proofs.Strings.{length-xors}
 use Rattle.boxes.specs.Box.{bad_frame}
 use Rattle.track_spec.specs.Track.{cbc1, known, allowed_protected, allowed_fields, allowed, fields_from, fields, bad_head, bad_fields, read_rows}
-use Rattle.subsample_spec.specs.Auxiliary.{some, sum, map_rows, bad_size, entry_count, map_read, iv_read, auxiliary_rows}
+use Rattle.subsample_spec.specs.Auxiliary.{some, sum, map_rows, bad_size, entry_count, places, map_read, iv_read, auxiliary_rows}
 use Rattle.scheme.specs.Layout.{scheme_of, pattern_of, in_whole_block, is_ciphered, tabulate, range_marks, marks, mask, chosen, replaced}
 use Rattle.scheme.specs.WholeSample.{over, whole}
 use Rattle.scheme.specs.Part.{protected_entries, entries_of, ciphered}
@@ -33,7 +33,7 @@ pub block_examples_hold : sample_after Lock (example_inputs cbc1) (span 1 16) �
     ≡ encipher (round_keys example_key) (added (span 1 16) example_iv) ∷ xors (decipher (round_keys example_key) (span 1 16)) example_iv ∷ []
 unfolding sample_after sample_rows ciphered_by parameters_of key_of map_of iv_of key_rows key_in read_rows known same
     bad_frame number bad_head bad_fields allowed allowed_fields allowed_protected fields fields_from filled auxiliary_rows bad_size map_rows map_read
-    entry_count some sum iv_read answer ciphered entries_of protected_entries scheme_of pattern_of whole over mask marks range_marks tabulate
+    entry_count places some sum iv_read answer ciphered entries_of protected_entries scheme_of pattern_of whole over mask marks range_marks tabulate
     is_ciphered in_whole_block chosen cbc cbc_blocks block_out xors
 block_examples_hold =
     let ks = round_keys example_key in

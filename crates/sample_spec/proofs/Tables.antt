@@ -7,14 +7,14 @@ use borrow.Author.Tests.{ne_eqb}
 use Rattle.octets.specs.Answers.{Row, answer}
 use Rattle.octets.proofs.Answers.{Refusals, none, more, join_done, join_refused, join_first}
 use Rattle.track_spec.specs.declared.Parameters.{Parameters}
-use Rattle.track_spec.specs.declared.BoxRead.{BoxRead}
+use Rattle.track_spec.specs.Track.{BoxRead}
 use Rattle.track_spec.specs.Track.{zeros, read_rows, unprotected, read_box}
 use Rattle.track_spec.proofs.Checking.{read_refusals}
-use Rattle.subsample_spec.specs.declared.AuxiliaryRead.{AuxiliaryRead}
+use Rattle.subsample_spec.specs.Auxiliary.{AuxiliaryRead}
 use Rattle.subsample_spec.specs.Auxiliary.{empty_map, auxiliary_rows, read_under}
 use Rattle.subsample_spec.specs.Auxiliary as auxiliary
-use Rattle.sample_spec.specs.declared.KeyFound.{KeyFound}
-use Rattle.sample_spec.specs.declared.InputsRead.{InputsRead}
+use Rattle.sample_spec.specs.Sample.{KeyFound}
+use Rattle.sample_spec.specs.Sample.{InputsRead}
 use Rattle.sample_spec.specs.Sample.{Inputs, key_rows, find_key, parameters_of, key_of, map_of, iv_of, sample_rows, handed_out, read_inputs}
 
 pub key_refusals : (p : Parameters) (keys : List ℕ) → Refusals (key_rows p keys)

@@ -13,7 +13,7 @@ use Rattle.octets.proofs.OfBytes.{filled-length}
 use Rattle.octets.proofs.Tests.{&&_left}
 use Rattle.modes_spec.specs.declared.Direction.{Direction}
 use Rattle.track_spec.specs.declared.Parameters.{Parameters}
-use Rattle.track_spec.specs.declared.BoxRead.{BoxRead}
+use Rattle.track_spec.specs.Track.{BoxRead}
 use Rattle.track_spec.specs.Track.{cens, cbcs, box_length, eight_or_sixteen, pattern_or_none, allowed, allowed_fields, allowed_protected, Held, fields, fields_from, read_rows, read_box, box_bytes, parameter_rows}
 use Rattle.track_spec.proofs.Codes.{allowed_kid, allowed_constant, allowed-fields}
 use Rattle.track_spec.proofs.Fields.{constant_length}

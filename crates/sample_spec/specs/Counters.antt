@@ -1,7 +1,8 @@
 -- Document 01, "Which bytes are ciphered, and how", of what a caller hands in for a sample: its entries, which of its bytes are
 -- ciphered, and the counter blocks that they need under a counter scheme.
 use Rattle.std.specs.Prelude.{Bool, List, ℕ}
-use Rattle.scheme.specs.Layout.{scheme_of, pattern_of, Entry, mask}
+use Rattle.subsample_spec.specs.declared.Entry.{Entry}
+use Rattle.scheme.specs.Layout.{scheme_of, pattern_of, mask}
 use Rattle.scheme.specs.Part.{entries_of}
 use Rattle.scheme.specs.Counters.{blocks_needed, counter_blocks}
 use Rattle.sample_spec.specs.Sample.{Inputs, parameters_of, map_of, iv_of}

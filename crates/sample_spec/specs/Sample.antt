@@ -1,24 +1,43 @@
 -- Document 01, "Numbers answered, in the order tried": what a caller hands in for a sample, the key record (5 and 6), and a whole
 -- sample locked or opened (1 to 12).
 use Rattle.std.specs.Prelude.{cond, not, ◌&&◌, List, [], ◌∷◌, ◌++◌, refl, ℕ, ◌<◌, eqb, length, get_or, take, drop}
+use Rattle.std.specs.declared.result.Result.{Result}
+use Rattle.std.specs.declared.result.Result.TheVariants.{Ok, Err}
+use Rattle.refusals.specs.declared.Refusal.{Refusal}
+use Rattle.refusals.specs.Refusals.{refusal_number}
 use Rattle.octets.specs.Answers.{Row, row, answer}
 use Rattle.octets.specs.Bytes.{list_of, same, number, digits, filled}
 use Rattle.octets.specs.Cases.{Case, is, all_made, all_said, Hold, span}
 use Rattle.octets.specs.Xor.{◌⊕◌}
+use Rattle.aes.specs.declared.Key.{Key}
 use Rattle.aes.specs.Block.{round_keys, encipher, decipher}
 use Rattle.modes_spec.specs.declared.Direction.{Direction}
 use Rattle.modes_spec.specs.declared.Direction.TheVariants.{Lock, Open}
 use Rattle.modes_spec.specs.Modes.{counter_at, stream_byte, ctr}
 use Rattle.boxes.specs.Box.{bad_frame}
 use Rattle.track_spec.specs.declared.Parameters.{Parameters}
+use Rattle.track_spec.specs.declared.StartVector.{StartVector}
 use Rattle.track_spec.specs.Track.{cenc, tenc, zeros, known, allowed_protected, allowed_fields, allowed, fields_from, fields, bad_head, bad_fields, read_rows, unprotected}
 use Rattle.subsample_spec.specs.declared.SubsampleMap.{SubsampleMap}
-use Rattle.subsample_spec.specs.Auxiliary.{empty_map, some, sum, map_rows, bad_size, entry_count, map_read, iv_read, auxiliary_rows}
+use Rattle.subsample_spec.specs.Auxiliary.{empty_map, some, sum, map_rows, bad_size, entry_count, places, map_read, iv_read, auxiliary_rows}
+use Rattle.sample_spec.specs.declared.Inputs.{Inputs as Lent}
+use Rattle.sample_spec.specs.declared.InputsRead.{InputsRead as Accepted}
 use Rattle.scheme.specs.Layout.{scheme_of, pattern_of, is_ciphered, tabulate, range_marks, marks, mask, chosen, replaced}
 use Rattle.scheme.specs.WholeSample.{over, whole}
 use Rattle.scheme.specs.Part.{protected_entries, entries_of, ciphered}
-use Rattle.sample_spec.specs.declared.KeyFound.{KeyFound}
-use Rattle.sample_spec.specs.declared.InputsRead.{InputsRead}
+
+-- What finding a key answers.
+pub record KeyFound : Type 0 where
+  pub answer : ℕ
+  pub key : Key
+
+-- What reading the inputs of a sample answers.
+pub record InputsRead : Type 0 where
+  pub answer : ℕ
+  pub parameters : Parameters
+  pub key : Key
+  pub map : SubsampleMap
+  pub iv : StartVector
 
 -- What a caller hands in for a sample: the scheme's code, the track box, the auxiliary data and the key record.
 pub record Inputs : Type 0 where
@@ -29,6 +48,10 @@ pub record Inputs : Type 0 where
 
 abbrev pub inputs : List ℕ → List ℕ → List ℕ → List ℕ → Inputs
 inputs code box auxiliary keys = record { code = code; box = box; auxiliary = auxiliary; keys = keys }
+
+-- Those that are lent to a call.
+abbrev pub lent : Lent → Inputs
+lent i = inputs i.code.now i.track_box.now i.auxiliary.now i.key_record.now
 
 -- Box and auxiliary data are bytes, as every caller's are.
 pub record OfBytes (i : Inputs) : Type 0 where
@@ -46,6 +69,11 @@ key_rows p keys =
 -- The key; zeros for an unprotected track.
 unfoldable pub key_in : Parameters → List ℕ → List ℕ
 key_in p keys = cond (eqb p.protected 1) (filled 16 (drop 16 keys)) zeros
+
+-- The answer of a search as a number and a key; a refusal has a key of zeros.
+abbrev pub as_key_found : Result Key Refusal → KeyFound
+as_key_found (Ok k) = record { answer = 0; key = k }
+as_key_found (Err r) = record { answer = refusal_number r; key = record { 0 = zeros } }
 
 -- What finding the key for some parameters answers; zeros if refused.
 unfoldable pub find_key : Parameters → List ℕ → KeyFound
@@ -78,6 +106,12 @@ sample_rows i n =
 -- What a call with a sample of n bytes answers, in either direction.
 abbrev pub answered : Inputs → ℕ → ℕ
 answered i n = answer (sample_rows i n)
+
+-- The answer of a reading as a number and what was read; a refusal has what an empty unprotected track would.
+abbrev pub as_inputs_read : Result Accepted Refusal → InputsRead
+as_inputs_read (Ok a) = record { answer = 0; parameters = a.parameters; key = a.key; map = a.map; iv = a.iv }
+as_inputs_read (Err r) =
+    record { answer = refusal_number r; parameters = unprotected; key = record { 0 = zeros }; map = empty_map; iv = record { 0 = zeros } }
 
 -- What is handed out with an answer: what the inputs say, or after a refusal what an empty unprotected track would.
 unfoldable pub handed_out : ℕ → Inputs → InputsRead
@@ -146,6 +180,6 @@ examples =
 pub examples_hold : Hold examples
 unfolding examples all_made all_said sample_after sample_rows ciphered_by parameters_of key_of map_of iv_of key_rows key_in read_rows known same
     bad_frame number bad_head bad_fields allowed allowed_fields allowed_protected fields fields_from filled auxiliary_rows bad_size map_rows map_read
-    entry_count some sum iv_read answer ciphered entries_of protected_entries scheme_of pattern_of whole over mask marks range_marks tabulate
+    entry_count places some sum iv_read answer ciphered entries_of protected_entries scheme_of pattern_of whole over mask marks range_marks tabulate
     is_ciphered chosen replaced ctr stream_byte counter_at digits
 examples_hold = refl

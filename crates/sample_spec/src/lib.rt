@@ -2,28 +2,25 @@
 // ciphered, and how").
 #![tactic(auto)]
 
-pub mod refusal;
-
 use aes::Key;
 use subsample_spec::SubsampleMap;
 use track_spec::{Parameters, StartVector};
 
-// What finding a key answers.
+// The bytes of a key record: the KID, then the key.
+pub const KEY_RECORD: usize = 32;
+
+// What a caller hands in for a sample: the scheme's code, the track box, the auxiliary data and the key record.
 #[derive(Clone, Copy)]
-pub struct KeyFound {
-    pub answer: u8,
-    pub key: Key,
+pub struct Inputs<'a> {
+    pub code: &'a [u8],
+    pub track_box: &'a [u8],
+    pub auxiliary: &'a [u8],
+    pub key_record: &'a [u8],
 }
 
-impl KeyFound {
-    // The bytes of a key record: the KID, then the key.
-    pub const RECORD: usize = 32;
-}
-
-// What reading the inputs of a sample answers.
+// What accepted inputs say.
 #[derive(Clone, Copy)]
 pub struct InputsRead {
-    pub answer: u8,
     pub parameters: Parameters,
     pub key: Key,
     pub map: SubsampleMap,

@@ -12,10 +12,11 @@ use lib.ListN.{length, get_or, take, drop, replicate, length-append, length-repl
 use lib.Seq.{get_or-drop, drop-drop, take_at, drop_at, length-take-le}
 use Rattle.octets.specs.Xor.{◌⊕◌}
 use borrow.Author.Tests.{eqb-true, eqb-false, eq-eqb, ne_eqb, lt-ltb, le-ltb}
+use Rattle.subsample_spec.specs.declared.Entry.{Entry}
 use Rattle.scheme.specs.declared.Pattern.{Pattern}
 use Rattle.scheme.specs.declared.Scheme.{Scheme}
 use Rattle.scheme.specs.declared.Scheme.TheVariants.{Cenc, Cbc1, Cens, Cbcs}
-use Rattle.scheme.specs.Layout.{is_crypt_block, Entry, total, in_whole_block, in_crypt_run, tabulate, is_ciphered, range_marks, marks, mask, restarts, restart_mask, chosen, replaced, count}
+use Rattle.scheme.specs.Layout.{is_crypt_block, total, in_whole_block, in_crypt_run, tabulate, is_ciphered, range_marks, marks, mask, restarts, restart_mask, chosen, replaced, count}
 use Rattle.modes_spec.specs.declared.Direction.{Direction}
 use Rattle.modes_spec.specs.Modes.{Cipher, counter_at, stream_byte, ctr, block_out, block_chain, cbc_blocks, cbc, Sized}
 use Rattle.scheme.specs.WholeSample.{over, over_each, whole}

@@ -1,13 +1,12 @@
 -- What allowed parameters and an accepted map say of a sample's layout.
 use mathlib.Core.Bool.{Bool, true, false, cond, true≢false}
-use mathlib.Core.List.{List, [], ◌∷◌, ◌++◌}
+use mathlib.Core.List.{[], ◌∷◌}
 use mathlib.Core.Logic.{⊎_elim}
 use mathlib.Core.Path.{◌≡◌, refl, sym, ap, ◌∙◌}
-use Prim.Native.Nat.{ℕ, zero, suc, ◌+◌, ◌≤◌, ◌<◌}
-use native.Mathlib.Nat.{zero-add}
+use Prim.Native.Nat.{ℕ, ◌+◌, ◌≤◌}
 use native.Mathlib.Omega.{arith}
 use lib.Dec.{eqb}
-use lib.ListN.{length, get_or}
+use lib.ListN.{length, take}
 use borrow.Author.Tests.{eqb-true, eqb-false, lt-ltb, not-false}
 use Rattle.octets.specs.Answers.{answer}
 use Rattle.octets.specs.Bytes.{same}
@@ -16,13 +15,16 @@ use Rattle.octets.proofs.Tests.{&&_left}
 use Rattle.track_spec.specs.declared.Parameters.{Parameters}
 use Rattle.track_spec.specs.Track.{known, pattern_or_none, allowed_protected, allowed_fields, allowed}
 use Rattle.track_spec.proofs.Codes.{known_cases, allowed-fields}
+use Rattle.subsample_spec.specs.declared.Entry.{Entry}
 use Rattle.subsample_spec.specs.declared.SubsampleMap.{SubsampleMap}
-use Rattle.subsample_spec.specs.Auxiliary.{limit, sum, entry_length, map_rows}
+use Rattle.subsample_spec.specs.Auxiliary.{limit, sum, entry_length, map_rows, entry}
+use Rattle.subsample_spec.proofs.Counting.{sum_first}
 use Rattle.subsample_spec.proofs.Reading.{count-allowed}
 use Rattle.scheme.specs.declared.Scheme.{Scheme}
 use Rattle.scheme.specs.declared.Scheme.TheVariants.{Cenc, Cbc1, Cens, Cbcs}
-use Rattle.scheme.specs.Layout.{scheme_of, Entry, entry, entries, total}
+use Rattle.scheme.specs.Layout.{scheme_of, total}
 use Rattle.scheme.specs.Part.{protected_entries, entries_of}
+use Rattle.scheme.proofs.SampleParts.{total_by}
 
 -- ---- Parameters.
 
@@ -52,34 +54,8 @@ module _ (p : Parameters) (k : known p.code ≡ true) (h : allowed p ≡ true) (
 
 -- ---- The map.
 
-total-append : (es fs : List Entry) → total (es ++ fs) ≡ total es + total fs
-unfolding total
-total-append [] fs = sym (zero-add (total fs))
-total-append (e ∷ es) fs = rw (total-append es fs) (omega arith)
-
-entries_snoc : (cs ps : List ℕ) (k : ℕ) → k < length cs → k < length ps
-    → entries cs ps (suc k) ≡ entries cs ps k ++ (entry (get_or cs k 0) (get_or ps k 0) ∷ [])
-unfolding entries
-entries_snoc [] ps k h l = absurd (omega arith)
-entries_snoc (c ∷ cs) [] k h l = absurd (omega arith)
-entries_snoc (c ∷ cs) (p ∷ ps) zero h l = refl
-entries_snoc (c ∷ cs) (p ∷ ps) (suc k) h l =
-    ap (λ (es : List Entry). entry c p ∷ es) (entries_snoc cs ps k (omega arith) (omega arith))
-
-total-sum : (m : SubsampleMap) (k : ℕ) → k ≤ length m.clear → k ≤ length m.protected
-    → total (entries m.clear m.protected k) ≡ sum (entry_length m) k
-unfolding entries total sum
-total-sum m zero h l = refl
-total-sum m (suc k) h l =
-    rw (
-      entries_snoc m.clear m.protected k (omega arith) (omega arith),
-      total-append,
-      total-sum m k (omega arith) (omega arith),
-    )
-    (omega arith)
-
 -- the entries of an accepted map call for as many bytes as the sample has
-module _ (p : Parameters) (m : SubsampleMap) (n : ℕ) (hc : length m.clear ≡ limit) (hp : length m.protected ≡ limit)
+module _ (p : Parameters) (m : SubsampleMap) (n : ℕ) (he : length m.entries ≡ limit)
     (h : answer (map_rows p.code m n) ≡ 0) where
   few : m.count ≤ limit
   few = count-allowed p.code m n h
@@ -96,9 +72,11 @@ module _ (p : Parameters) (m : SubsampleMap) (n : ℕ) (hc : length m.clear ≡ 
   protected_total = go (eqb m.count 0) refl
     where
       go : (q : Bool) → eqb m.count 0 ≡ q
-          → total (cond q (entry 0 n ∷ []) (entries m.clear m.protected m.count)) ≡ n
+          → total (cond q (entry 0 n ∷ []) (take m.count m.entries)) ≡ n
       go true e = omega arith
-      go false e = total-sum m m.count (omega (arith, few)) (omega (arith, few)) ∙ added e
+      go false e =
+          sym (total_by (take m.count m.entries))
+          ∙ sum_first m (λ (e : Entry). e.clear + e.protected) m.count (omega (arith, few)) ∙ added e
 
   pub accepted-total : total (entries_of p m n) ≡ n
   unfolding entries_of total

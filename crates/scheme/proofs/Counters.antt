@@ -11,11 +11,12 @@ use Rattle.octets.proofs.Bytes.{get_d_list_of}
 use Rattle.modes_spec.specs.declared.Direction.{Direction}
 use Rattle.modes_spec.specs.Modes.{Cipher, counter_at, stream_byte, ctr}
 use Rattle.modes_spec.proofs.Counter.{distinct}
+use Rattle.subsample_spec.specs.declared.Entry.{Entry}
 use Rattle.scheme.specs.declared.Mode.TheVariants.{Counter}
 use Rattle.scheme.specs.declared.Pattern.{Pattern}
 use Rattle.scheme.specs.declared.Scheme.{Scheme}
 use Rattle.scheme.specs.declared.Scheme.TheVariants.{Cenc, Cbc1, Cens, Cbcs}
-use Rattle.scheme.specs.Layout.{Entry, total, mask, count, chosen, replaced}
+use Rattle.scheme.specs.Layout.{total, mask, count, chosen, replaced}
 use Rattle.scheme.specs.WholeSample.{over, whole}
 use Rattle.scheme.specs.Machine.{mode_of}
 use Rattle.scheme.specs.Counters.{blocks_needed, counter_blocks, key_stream_byte}

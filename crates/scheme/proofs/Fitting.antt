@@ -2,11 +2,10 @@
 use mathlib.Core.Bool.{Bool, true, false, ◌&&◌}
 use mathlib.Core.List.{List, []}
 use mathlib.Core.Path.{◌≡◌, refl, sym, ◌∙◌}
-use Prim.Native.Nat.{ℕ, ◌+◌, ◌-◌, ◌%◌, ◌≤◌}
-use native.Mathlib.Omega.{arith}
+use Prim.Native.Nat.{ℕ, ◌+◌, ◌%◌, ◌≤◌}
 use lib.Dec.{eqb, leb}
 use lib.ListN.{length, take}
-use borrow.Author.Tests.{eqb-true, eq-eqb, leb-true, leb-false, le-leb, lt-leb}
+use borrow.Author.Tests.{eqb-true, eq-eqb, leb-true, le-leb}
 use Rattle.octets.proofs.Tests.{&&_left, &&_right}
 use Rattle.modes_spec.specs.declared.Direction.{Direction}
 use Rattle.modes_spec.specs.Modes.{Cipher}
@@ -19,14 +18,6 @@ use Rattle.scheme.specs.Part.{protected_entries, entries_of, held_under, fits, f
 use Rattle.scheme.specs.Walk.{SampleAsks}
 use Rattle.scheme.proofs.SampleParts.{whole_asks}
 use Rattle.scheme.proofs.Under.{clear_fed}
-
--- a size below what is left after an offset
-pub leb-left : (end from size : ℕ) → from ≤ end → leb size (end - from) ≡ leb (from + size) end
-leb-left end from size l = go (leb size (end - from)) refl
-  where
-    go : (t : Bool) → leb size (end - from) ≡ t → t ≡ leb (from + size) end
-    go true e = sym (le-leb (from + size) end (omega (arith, leb-true size (end - from) e)))
-    go false e = sym (lt-leb (from + size) end (omega (arith, leb-false size (end - from) e)))
 
 module _ (p : Parameters) (m : SubsampleMap) (n : ℕ) (one : p.protected ≡ 1) where
   pub protected_entries_lem : entries_of p m n ≡ protected_entries m n

@@ -10,10 +10,11 @@ use lib.ListN.{length, get_or, take, drop, replicate, length-append, take-append
 use lib.Seq.{length-take-le, drop-cons, take_all}
 use borrow.Author.Tests.{ne_eqb, lt-ltb, le-ltb, ltb-true, ltb-false}
 use Rattle.modes_spec.specs.declared.Direction.{Direction}
+use Rattle.subsample_spec.specs.declared.Entry.{Entry}
 use Rattle.scheme.specs.declared.Pattern.{Pattern}
 use Rattle.scheme.specs.declared.Scheme.{Scheme}
 use Rattle.scheme.specs.declared.Scheme.TheVariants.{Cenc, Cbc1, Cens, Cbcs}
-use Rattle.scheme.specs.Layout.{Entry, total, in_whole_block, in_crypt_run, is_ciphered, marks, mask, restart_mask, count}
+use Rattle.scheme.specs.Layout.{total, in_whole_block, in_crypt_run, is_ciphered, marks, mask, restart_mask, count}
 use Rattle.modes_spec.specs.Modes.{Cipher, Sized}
 use Rattle.scheme.proofs.Pieces.{cond_law, held_after, Added, feed_adds, feed_position}
 use Rattle.scheme.proofs.Agreement.{drop_head, drop_tail}

@@ -8,11 +8,13 @@ use native.Mathlib.Omega.{arith}
 use lib.ListN.{take, drop, replicate, length-replicate}
 use lib.Seq.{take-append-le, take-nil, take_all}
 use borrow.Author.Tests.{lt-ltb, le-ltb}
+use Rattle.subsample_spec.specs.declared.Entry.{Entry}
+use Rattle.subsample_spec.specs.Auxiliary.{entry}
 use Rattle.scheme.specs.declared.Mode.TheVariants.{Counter, Chain}
 use Rattle.scheme.specs.declared.Pattern.{Pattern}
 use Rattle.scheme.specs.declared.Scheme.{Scheme}
-use Rattle.scheme.specs.declared.Scheme.TheVariants.{Cenc, Cbc1, Cens, Cbcs}
-use Rattle.scheme.specs.Layout.{Entry, entry, is_ciphered, range_marks, marks, mask, count}
+use Rattle.scheme.specs.declared.Scheme.TheVariants.{Cenc}
+use Rattle.scheme.specs.Layout.{is_ciphered, range_marks, marks, mask, count}
 use Rattle.scheme.proofs.Agreement.{length_range}
 use Rattle.scheme.specs.Held.{Clear, Inside, place, in_place, in_block, held_at}
 use Rattle.scheme.proofs.Positions.{rank_block, count_run, count_none, count-after, held_at_is}
@@ -123,9 +125,6 @@ module _ {es : List Entry} {x k y before : ℕ} (s : Locating es x k y before) w
 
 -- what of the pad is used there
 module _ {es : List Entry} {x : ℕ} {b : Bool} {n o r : ℕ} (s : Located es x b n o r) (sch : Scheme) (pattern : Pattern) where
-  pub used_cenc : sch ≡ Cenc → r % 16 ≡ count (take x (mask sch pattern es)) % 16
-  used_cenc e = rw (e, s.rank pattern)
-
   module _ (ne : sch ≡ Cenc → ⊥) where
     pub used_clear : b ≡ false → 0 ≡ count (take x (mask sch pattern es)) % 16
     unfolding in_block in_place
@@ -141,12 +140,6 @@ module _ {es : List Entry} {x : ℕ} {b : Bool} {n o r : ℕ} (s : Located es x 
 
 cross : {A : Type 0} → true ≡ false → A
 cross e = absurd (let z : ◌≡◌ {A = ℕ} 0 1 = cc in omega arith)
-
-pub is_cenc : (s : Scheme) → every_byte s ≡ true → s ≡ Cenc
-is_cenc Cenc e = refl
-is_cenc Cbc1 e = cross (sym e)
-is_cenc Cens e = cross (sym e)
-is_cenc Cbcs e = cross (sym e)
 
 pub no_cenc : (s : Scheme) → every_byte s ≡ false → s ≡ Cenc → ⊥
 no_cenc s e f = cross (sym (ap every_byte f) ∙ e)

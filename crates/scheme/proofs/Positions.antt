@@ -9,10 +9,11 @@ use lib.Dec.{ltb}
 use lib.ListN.{length, get_or, take, replicate, length-replicate, get_or-replicate, get_or-append}
 use lib.Seq.{get_or-append-add, take-append-le, take-append-add, take_all, take-nil}
 use borrow.Author.Tests.{ltb-true, ltb-false, le-ltb}
+use Rattle.subsample_spec.specs.declared.Entry.{Entry}
 use Rattle.scheme.specs.declared.Pattern.{Pattern}
 use Rattle.scheme.specs.declared.Scheme.{Scheme}
 use Rattle.scheme.specs.declared.Scheme.TheVariants.{Cenc, Cbc1, Cens, Cbcs}
-use Rattle.scheme.specs.Layout.{is_crypt_block, Entry, in_whole_block, in_crypt_run, tabulate, is_ciphered, range_marks, marks, mask, count}
+use Rattle.scheme.specs.Layout.{is_crypt_block, in_whole_block, in_crypt_run, tabulate, is_ciphered, range_marks, marks, mask, count}
 use Rattle.scheme.specs.Machine.{mode_of}
 use Rattle.scheme.specs.Held.{Place, Clear, Inside, place, in_place, in_block, held_at}
 use Rattle.scheme.proofs.Pieces.{cond_law, held_after}

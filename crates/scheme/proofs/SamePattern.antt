@@ -6,11 +6,12 @@ use lib.ListN.{length}
 use Rattle.modes_spec.specs.declared.Direction.{Direction}
 use Rattle.modes_spec.specs.Modes.{Cipher}
 use Rattle.track_spec.specs.declared.Parameters.{Parameters}
+use Rattle.subsample_spec.specs.declared.Entry.{Entry}
 use Rattle.subsample_spec.specs.declared.SubsampleMap.{SubsampleMap}
 use Rattle.scheme.specs.declared.Pattern.{Pattern}
 use Rattle.scheme.specs.declared.Scheme.{Scheme}
 use Rattle.scheme.specs.declared.Scheme.TheVariants.{Cenc, Cbc1, Cens, Cbcs}
-use Rattle.scheme.specs.Layout.{pattern_of, in_crypt_run, is_ciphered, Entry, marks, mask}
+use Rattle.scheme.specs.Layout.{pattern_of, in_crypt_run, is_ciphered, marks, mask}
 use Rattle.scheme.specs.WholeSample.{over_each, whole}
 use Rattle.scheme.specs.Machine.{State, feed_sample}
 use Rattle.scheme.specs.Held.{in_block, held_at}

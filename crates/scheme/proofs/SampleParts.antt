@@ -2,20 +2,24 @@
 use mathlib.Core.Path.{◌≡◌, refl, sym, ap, ◌∙◌}
 use mathlib.Core.Bool.{Bool, true, false}
 use mathlib.Core.List.{List, [], ◌∷◌, ◌++◌, append_assoc}
-use Prim.Native.Nat.{ℕ, zero, suc, ◌+◌, ◌-◌, ◌*◌, ◌/◌, ◌%◌, ◌^◌, ◌≤◌, ◌<◌, min}
-use native.Mathlib.Nat.{add-zero, zero-add}
+use Prim.Native.Nat.{ℕ, ◌+◌, ◌-◌, ◌/◌, ◌%◌, ◌^◌, ◌≤◌, ◌<◌, min}
+use native.Mathlib.Nat.{add-zero}
 use native.Mathlib.Numerals.{add-one}
 use native.Mathlib.Omega.{arith}
 use lib.Dec.{ltb}
 use lib.ListN.{length, get_or, take, drop, replicate, length-append, length-drop, length-replicate, take-append-drop}
-use lib.Seq.{drop-drop, take-add, length-take-le, drop-append-le, take-append-le, drop-append-add, take-length, drop_at, drop-nil}
+use lib.Seq.{drop-drop, take-add, length-take-le, drop-append-le, take-append-le, drop-append-add, take-length, drop_at, drop-cons}
 use borrow.Author.Tests.{ltb-true, ltb-false, le-ltb}
 use borrow.Rule.Slice.PartMut.{put_mid}
+use Rattle.std.specs.List.{sum_by}
+use Rattle.std.proofs.lemmas.List.Sums.{sum_by-cons}
 use Rattle.modes_spec.specs.declared.Direction.{Direction}
+use Rattle.subsample_spec.specs.declared.Entry.{Entry}
+use Rattle.subsample_spec.specs.Auxiliary.{entry}
 use Rattle.scheme.specs.declared.Pattern.{Pattern}
 use Rattle.scheme.specs.declared.Scheme.{Scheme}
 use Rattle.scheme.specs.declared.Scheme.TheVariants.{Cenc, Cbc1, Cens, Cbcs}
-use Rattle.scheme.specs.Layout.{Entry, entry, entries, total, in_whole_block, is_ciphered, restarts, range_marks, marks, mask, restart_mask, count}
+use Rattle.scheme.specs.Layout.{total, in_whole_block, is_ciphered, restarts, range_marks, marks, mask, restart_mask, count}
 use Rattle.modes_spec.specs.Modes.{Cipher}
 use Rattle.scheme.proofs.Agreement.{length_range}
 use Rattle.scheme.proofs.Pieces.{cond_law, held_after}
@@ -83,26 +87,14 @@ module _ (pattern : Pattern) where
 
 -- ---- the entries
 
-entry_at : (cs ps : List ℕ) (n k : ℕ) → k < n → k < length cs → k < length ps
-    → drop k (entries cs ps n) ≡ (record { clear = get_or cs k 0; protected = get_or ps k 0 }) ∷ drop (suc k) (entries cs ps n)
-unfolding entries
-entry_at cs ps zero k l m q = absurd (omega arith)
-entry_at [] ps (suc n) k l m q = absurd (omega arith)
-entry_at (c ∷ cs) [] (suc n) k l m q = absurd (omega arith)
-entry_at (c ∷ cs) (p ∷ ps) (suc n) zero l m q = refl
-entry_at (c ∷ cs) (p ∷ ps) (suc n) (suc k) l m q = entry_at cs ps n k (omega arith) (omega arith) (omega arith)
+pub entry_next : (es : List Entry) (k : ℕ) → k < length es → drop k es ≡ get_or es k (entry 0 0) ∷ drop (k + 1) es
+entry_next es k l = rw add-one (drop-cons es k (entry 0 0) l)
 
-pub entry_next : (cs ps : List ℕ) (n k : ℕ) → k < n → k < length cs → k < length ps
-    → drop k (entries cs ps n) ≡ (record { clear = get_or cs k 0; protected = get_or ps k 0 }) ∷ drop (k + 1) (entries cs ps n)
-entry_next cs ps n k l m q = rw add-one (entry_at cs ps n k l m q)
-
-pub no_more : (cs ps : List ℕ) (n k : ℕ) → n ≤ k → drop k (entries cs ps n) ≡ []
-unfolding entries
-no_more cs ps zero k l = drop-nil k
-no_more [] ps (suc n) k l = drop-nil k
-no_more (c ∷ cs) [] (suc n) k l = drop-nil k
-no_more (c ∷ cs) (p ∷ ps) (suc n) zero l = absurd (omega arith)
-no_more (c ∷ cs) (p ∷ ps) (suc n) (suc k) l = no_more cs ps n k (omega arith)
+-- how many bytes they call for, as a sum over them
+pub total_by : (es : List Entry) → sum_by (λ e. e.clear + e.protected) es ≡ total es
+unfolding total
+total_by [] = refl
+total_by (e ∷ es) = omega (arith, sum_by-cons (λ (e : Entry). e.clear + e.protected) e es, total_by es)
 
 -- ---- the walk
 
@@ -124,6 +116,15 @@ module _ (E D : Cipher) (d : Direction) (s : Scheme) (pattern : Pattern) (iv : L
     pub used : v < 16
     pub unused : mode_of s ≡ Chain → v ≡ 0
     pub rest : i < length xs → Rest s pattern es (x + i) (length xs - i) k o
+
+  -- the walk is over where no entry is left
+  pub walk_over : {ys b : List ℕ} {v i k o : ℕ} → Walked ys b v i k o → drop k es ≡ [] → length xs ≤ i
+  unfolding total
+  walk_over {i = i} w e = go (ltb i (length xs)) refl
+    where
+      go : (q : Bool) → ltb i (length xs) ≡ q → length xs ≤ i
+      go true q = absurd (let l = ltb-true i (length xs) q in omega (arith, l, rw e at (w.rest l).room))
+      go false q = ltb-false i (length xs) q
 
   module _ (a : SampleAsks s pattern es x (length xs) u) where
     below : u < 16
@@ -306,17 +307,6 @@ module _ (E D : Cipher) (d : Direction) (s : Scheme) (pattern : Pattern) (iv : L
               rest = walk_rest;
             }
 
--- the walk goes on only where there is an entry left
-pub walk_entry : {s : Scheme} {pattern : Pattern} {x m k o : ℕ} (cs ps : List ℕ) (n : ℕ) → Rest s pattern (entries cs ps n) x m k o
-    → 1 ≤ m → k < n
-unfolding total
-walk_entry {k = k} cs ps n r l = go (ltb k n) refl
-  where
-    go : (q : Bool) → ltb k n ≡ q → k < n
-    go true q = ltb-true k n q
-    go false q =
-        absurd (let e : drop k (entries cs ps n) ≡ [] = no_more cs ps n k (ltb-false k n q) in omega (arith, rw e at r.room))
-
 -- ---- a whole sample
 
 module _ (pattern : Pattern) where
@@ -345,46 +335,3 @@ module _ (pattern : Pattern) where
         to = rw z (held_no s es (total es) (held_end s es));
         rank = refl;
       }
-
--- ---- the entries of a map
-
--- a map holds no more entries than it has places
-entries_all : (cs ps : List ℕ) (m n : ℕ) → length cs ≤ m → length cs ≤ n → entries cs ps m ≡ entries cs ps n
-unfolding entries
-entries_all [] ps zero zero h k = refl
-entries_all [] ps zero (suc n) h k = refl
-entries_all [] ps (suc m) zero h k = refl
-entries_all [] ps (suc m) (suc n) h k = refl
-entries_all (c ∷ cs) ps zero n h k = absurd (omega arith)
-entries_all (c ∷ cs) ps (suc m) zero h k = absurd (omega arith)
-entries_all (c ∷ cs) [] (suc m) (suc n) h k = refl
-entries_all (c ∷ cs) (p ∷ ps) (suc m) (suc n) h k =
-    ap (λ (es : List Entry). entry c p ∷ es) (entries_all cs ps m n (omega arith) (omega arith))
-
-pub entries-limit : (k : ℕ) (cs ps : List ℕ) (n : ℕ) → length cs ≡ k → entries cs ps (min n k) ≡ entries cs ps n
-entries-limit k cs ps n e = go (ltb n k) refl
-  where
-    go : (b : Bool) → ltb n k ≡ b → entries cs ps (min n k) ≡ entries cs ps n
-    go true h = let l : min n k ≡ n = omega (arith, ltb-true n k h) in rw l
-    go false h = entries_all cs ps (min n k) n (omega (arith, ltb-false n k h)) (omega (arith, ltb-false n k h))
-
--- the lengths of the entries before the k-th, added up
-pub record Summed (es : List Entry) (all k : ℕ) : Type 0 where
-  pub sum : all + total (drop k es) ≡ total es
-  pub low : all ≤ k * 2 ^ 33
-
-pub sum-start : (es : List Entry) → Summed es 0 0
-sum-start es = record { sum = zero-add (total es); low = omega arith }
-
-module _ {es : List Entry} {all k : ℕ} (s : Summed es all k) where
-  pub sum-next : (p n : ℕ) → drop k es ≡ entry p n ∷ drop (k + 1) es → p < 2 ^ 16 → n < 2 ^ 32 → Summed es (all + (p + n)) (k + 1)
-  unfolding total
-  sum-next p n e hp hn =
-      record {
-        sum = let h : all + (p + (n + total (drop (k + 1) es))) ≡ total es = rw e at s.sum in omega arith;
-        low = omega (arith, s.low);
-      }
-
-  pub sum_end : drop k es ≡ [] → all ≡ total es
-  unfolding total
-  sum_end e = let h : all + 0 ≡ total es = rw e at s.sum in omega arith

@@ -10,11 +10,13 @@ use borrow.Author.Tests.{eqb-true}
 use Rattle.modes_spec.specs.declared.Direction.{Direction}
 use Rattle.modes_spec.specs.Modes.{Cipher, Sized}
 use Rattle.track_spec.specs.declared.Parameters.{Parameters}
+use Rattle.subsample_spec.specs.declared.Entry.{Entry}
+use Rattle.subsample_spec.specs.Auxiliary.{entry}
 use Rattle.subsample_spec.specs.declared.SubsampleMap.{SubsampleMap}
 use Rattle.scheme.specs.declared.Pattern.{Pattern}
 use Rattle.scheme.specs.declared.Scheme.{Scheme}
 use Rattle.scheme.specs.declared.Scheme.TheVariants.{Cenc, Cbc1, Cens, Cbcs}
-use Rattle.scheme.specs.Layout.{pattern_of, scheme_of, restarts, Entry, entry, total, mask, restart_mask}
+use Rattle.scheme.specs.Layout.{pattern_of, scheme_of, restarts, total, mask, restart_mask}
 use Rattle.scheme.specs.declared.Mode.{Mode}
 use Rattle.scheme.specs.declared.Mode.TheVariants.{Counter, Chain}
 use Rattle.scheme.specs.Machine.{State, mode_of, free, chain_at, plain, counted, chained, ciphered_step, step, feed, feed_sample}

@@ -16,10 +16,11 @@ use Rattle.modes_spec.proofs.Streamed.{shorter}
 use Rattle.octets.proofs.OfBytes.{bytes_take, bytes_drop, bytes_append}
 use Rattle.modes_spec.specs.Undone.{back, Inverse, Undoes}
 use Rattle.modes_spec.proofs.Undone.{same_undone, ctr_undone, cbc_undone}
+use Rattle.subsample_spec.specs.declared.Entry.{Entry}
 use Rattle.scheme.specs.declared.Pattern.{Pattern}
 use Rattle.scheme.specs.declared.Scheme.{Scheme}
 use Rattle.scheme.specs.declared.Scheme.TheVariants.{Cenc, Cbc1, Cens, Cbcs}
-use Rattle.scheme.specs.Layout.{Entry, is_ciphered, range_marks, marks, mask, chosen, replaced}
+use Rattle.scheme.specs.Layout.{is_ciphered, range_marks, marks, mask, chosen, replaced}
 use Rattle.scheme.specs.WholeSample.{over, over_each, whole}
 use Rattle.scheme.proofs.Agreement.{length_range}
 

@@ -12,7 +12,8 @@ use Rattle.modes_spec.specs.Modes.{Cipher}
 use Rattle.scheme.specs.declared.Pattern.{Pattern}
 use Rattle.scheme.specs.declared.Scheme.{Scheme}
 use Rattle.scheme.specs.declared.Scheme.TheVariants.{Cenc, Cbc1, Cens, Cbcs}
-use Rattle.scheme.specs.Layout.{entry, is_ciphered, marks, mask}
+use Rattle.subsample_spec.specs.Auxiliary.{entry}
+use Rattle.scheme.specs.Layout.{is_ciphered, marks, mask}
 use Rattle.scheme.specs.WholeSample.{whole}
 use Rattle.scheme.specs.declared.Mode.{Mode}
 use Rattle.scheme.specs.Machine.{plain, step, feed}

@@ -2,9 +2,10 @@
 use Rattle.std.specs.Prelude.{List, [], ℕ, ◌+◌, ◌/◌, ◌%◌, get_or}
 use Rattle.octets.specs.Bytes.{list_of}
 use Rattle.modes_spec.specs.Modes.{Cipher, counter_at}
+use Rattle.subsample_spec.specs.declared.Entry.{Entry}
 use Rattle.scheme.specs.declared.Pattern.{Pattern}
 use Rattle.scheme.specs.declared.Scheme.{Scheme}
-use Rattle.scheme.specs.Layout.{Entry, mask, count}
+use Rattle.scheme.specs.Layout.{mask, count}
 
 -- Byte j of the key stream that a list of counter blocks gives: block j / 16, enciphered, has it.
 unfoldable pub key_stream_byte : Cipher → List (List ℕ) → ℕ → ℕ

@@ -6,10 +6,11 @@ use Rattle.modes_spec.specs.declared.Direction.{Direction}
 use Rattle.modes_spec.specs.declared.Direction.TheVariants.{Lock, Open}
 use Rattle.modes_spec.specs.Modes.{Cipher}
 use Rattle.modes_spec.specs.Examples.{telling, adding, block}
+use Rattle.subsample_spec.specs.declared.Entry.{Entry}
+use Rattle.subsample_spec.specs.Auxiliary.{entry}
 use Rattle.scheme.specs.declared.Pattern.{Pattern}
 use Rattle.scheme.specs.declared.Scheme.{Scheme}
 use Rattle.scheme.specs.declared.Scheme.TheVariants.{Cenc, Cbc1, Cens, Cbcs}
-use Rattle.scheme.specs.Layout.{Entry, entry}
 
 -- A sample, and what locking or opening makes of it.
 pub record Example : Type 0 where

@@ -2,10 +2,12 @@
 use Rattle.std.specs.Prelude.{cond, List, [], ◌∷◌, ◌++◌, refl, ℕ, ◌-◌, ◌%◌, ltb, replicate}
 use Rattle.octets.specs.Bytes.{list_of}
 use Rattle.octets.specs.Cases.{Case, is, all_made, all_said, Hold, span}
+use Rattle.subsample_spec.specs.declared.Entry.{Entry}
+use Rattle.subsample_spec.specs.Auxiliary.{entry}
 use Rattle.scheme.specs.declared.Pattern.{Pattern}
 use Rattle.scheme.specs.declared.Scheme.{Scheme}
 use Rattle.scheme.specs.declared.Scheme.TheVariants.{Cenc, Cbc1, Cens, Cbcs}
-use Rattle.scheme.specs.Layout.{Entry, entry, in_whole_block, in_crypt_run, is_ciphered}
+use Rattle.scheme.specs.Layout.{in_whole_block, in_crypt_run, is_ciphered}
 use Rattle.scheme.specs.Examples.{crypt_skip}
 
 -- A clear byte, or the byte at an offset of a protected range of some length.

@@ -3,6 +3,7 @@ use Rattle.std.specs.Prelude.{Bool, true, false, cond, ◌&&◌, List, [], ◌�
 use Rattle.octets.specs.Bytes.{same}
 use Rattle.track_spec.specs.Track.{cbc1, cens, cbcs, no_pattern}
 use Rattle.track_spec.specs.declared.Parameters.{Parameters}
+use Rattle.subsample_spec.specs.declared.Entry.{Entry}
 use Rattle.scheme.specs.declared.Pattern.{Pattern}
 use Rattle.scheme.specs.declared.Scheme.{Scheme}
 use Rattle.scheme.specs.declared.Scheme.TheVariants.{Cenc, Cbc1, Cens, Cbcs}
@@ -49,21 +50,6 @@ restarts Cens n o = false
 restarts Cbcs n o = eqb (o / 16) 0
 
 -- ---- A sample.
-
--- A subsample entry: clear bytes, then protected bytes.
-pub record Entry : Type 0 where
-  pub clear : ℕ
-  pub protected : ℕ
-
-abbrev pub entry : ℕ → ℕ → Entry
-entry a n = record { clear = a; protected = n }
-
--- The first k entries of a list of clear and a list of protected lengths.
-unfoldable pub entries : List ℕ → List ℕ → ℕ → List Entry
-entries cs ps zero = []
-entries [] ps (suc k) = []
-entries (c ∷ cs) [] (suc k) = []
-entries (c ∷ cs) (p ∷ ps) (suc k) = entry c p ∷ entries cs ps k
 
 -- How many bytes the entries call for.
 unfoldable pub total : List Entry → ℕ

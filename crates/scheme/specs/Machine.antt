@@ -3,12 +3,13 @@ use Rattle.std.specs.Prelude.{Bool, false, cond, List, [], ◌∷◌, ◌++◌, 
 use Rattle.octets.specs.Xor.{◌⊕◌}
 use Rattle.modes_spec.specs.declared.Direction.{Direction}
 use Rattle.modes_spec.specs.Modes.{Cipher, counter_at, block_out, block_chain}
+use Rattle.subsample_spec.specs.declared.Entry.{Entry}
 use Rattle.scheme.specs.declared.Pattern.{Pattern}
 use Rattle.scheme.specs.declared.Mode.{Mode}
 use Rattle.scheme.specs.declared.Mode.TheVariants.{Counter, Chain}
 use Rattle.scheme.specs.declared.Scheme.{Scheme}
 use Rattle.scheme.specs.declared.Scheme.TheVariants.{Cenc, Cbc1, Cens, Cbcs}
-use Rattle.scheme.specs.Layout.{Entry, mask, restart_mask, count}
+use Rattle.scheme.specs.Layout.{mask, restart_mask, count}
 
 -- What is kept between two bytes: the position, the counter or chain block, and the bytes held.
 pub record State : Type 0 where

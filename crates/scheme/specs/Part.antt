@@ -1,21 +1,22 @@
 -- A sample under parameters and a map: its entries, the bytes held at a position, and a part of it ciphered where it lies
 -- (document 01, "A sample's auxiliary data", "Which bytes are ciphered, and how" and "Pieces").
-use Rattle.std.specs.Prelude.{Bool, cond, ◌&&◌, List, [], ◌∷◌, ◌≡◌, ℕ, ◌+◌, eqb, leb, length}
+use Rattle.std.specs.Prelude.{Bool, cond, ◌&&◌, List, [], ◌∷◌, ◌≡◌, ℕ, ◌+◌, eqb, leb, length, take}
 use Rattle.octets.specs.Bytes.{Bytes}
 use Rattle.modes_spec.specs.declared.Direction.{Direction}
 use Rattle.modes_spec.specs.Modes.{Cipher}
 use Rattle.track_spec.specs.declared.Parameters.{Parameters}
+use Rattle.subsample_spec.specs.declared.Entry.{Entry}
 use Rattle.subsample_spec.specs.declared.SubsampleMap.{SubsampleMap}
-use Rattle.subsample_spec.specs.Auxiliary.{longest}
+use Rattle.subsample_spec.specs.Auxiliary.{longest, entry}
 use Rattle.scheme.specs.declared.Scheme.TheVariants.{Cbcs}
-use Rattle.scheme.specs.Layout.{pattern_of, scheme_of, Entry, entry, entries, total}
+use Rattle.scheme.specs.Layout.{pattern_of, scheme_of, total}
 use Rattle.scheme.specs.WholeSample.{whole}
 use Rattle.scheme.specs.Machine.{State, Stepped, free, feed_sample}
 use Rattle.scheme.specs.Held.{held_at}
 
 -- The entries of a protected sample of n bytes: none written means one, 0 clear, all protected.
 unfoldable pub protected_entries : SubsampleMap → ℕ → List Entry
-protected_entries m n = cond (eqb m.count 0) (entry 0 n ∷ []) (entries m.clear m.protected m.count)
+protected_entries m n = cond (eqb m.count 0) (entry 0 n ∷ []) (take m.count m.entries)
 
 -- The entries of a sample of n bytes; of an unprotected track all is clear.
 unfoldable pub entries_of : Parameters → SubsampleMap → ℕ → List Entry

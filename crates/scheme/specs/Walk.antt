@@ -3,12 +3,13 @@
 use Rattle.std.specs.Prelude.{◌≡◌, Bool, true, false, cond, List, ◌++◌, ℕ, ◌+◌, ◌-◌, ◌%◌, ◌^◌, ◌≤◌, ◌<◌, length, take, drop, replicate}
 use Rattle.modes_spec.specs.declared.Direction.{Direction}
 use Rattle.modes_spec.specs.Modes.{Cipher}
+use Rattle.subsample_spec.specs.declared.Entry.{Entry}
 use Rattle.scheme.specs.declared.Mode.{Mode}
 use Rattle.scheme.specs.declared.Mode.TheVariants.{Counter, Chain}
 use Rattle.scheme.specs.declared.Pattern.{Pattern}
 use Rattle.scheme.specs.declared.Scheme.{Scheme}
 use Rattle.scheme.specs.declared.Scheme.TheVariants.{Cenc, Cbc1, Cens, Cbcs}
-use Rattle.scheme.specs.Layout.{Entry, total, is_ciphered, restarts, range_marks, mask, count}
+use Rattle.scheme.specs.Layout.{total, is_ciphered, restarts, range_marks, mask, count}
 use Rattle.scheme.specs.Machine.{Stepped, free, mode_of, feed, feed_sample}
 use Rattle.scheme.specs.Held.{Clear, Inside, place, held_at}
 

@@ -4,10 +4,11 @@ use Rattle.octets.specs.Bytes.{number, digits}
 use Rattle.octets.specs.Xor.{◌⊕◌}
 use Rattle.modes_spec.specs.declared.Direction.{Direction}
 use Rattle.modes_spec.specs.Modes.{Cipher, xors, counter_at, stream_byte, ctr, block_out, block_chain, cbc_blocks, cbc}
+use Rattle.subsample_spec.specs.declared.Entry.{Entry}
 use Rattle.scheme.specs.declared.Pattern.{Pattern}
 use Rattle.scheme.specs.declared.Scheme.{Scheme}
 use Rattle.scheme.specs.declared.Scheme.TheVariants.{Cenc, Cbc1, Cens, Cbcs}
-use Rattle.scheme.specs.Layout.{Entry, in_whole_block, in_crypt_run, is_ciphered, tabulate, range_marks, marks, mask, chosen, replaced}
+use Rattle.scheme.specs.Layout.{in_whole_block, in_crypt_run, is_ciphered, tabulate, range_marks, marks, mask, chosen, replaced}
 use Rattle.scheme.specs.Examples.{Example, counter_examples, cbc1_examples, cbcs_examples, whole_block_examples, made_by, results}
 
 -- f over the marked bytes, taken as one run; every other byte stays.

@@ -13,7 +13,7 @@ use track_spec::{Parameters, StartVector};
 pub fn first_block(iv: StartVector) -> ModeBlock
     ensures { result.0 ≡ iv.0 }
 {
-    ModeBlock::new(iv.bytes())
+    ModeBlock(iv.0)
 }
 
 #[derive(Clone, Copy)]
@@ -43,33 +43,32 @@ impl Scheme {
     pub fn of(code: [u8; 4]) -> Scheme
         ensures { result ≡ spec.scheme_of code }
     {
-        if octets::same(&code, b"cbc1") {
-            return Scheme::Cbc1;
+        if &code == b"cbc1" {
+            Scheme::Cbc1
+        } else if &code == b"cens" {
+            Scheme::Cens
+        } else if &code == b"cbcs" {
+            Scheme::Cbcs
+        } else {
+            Scheme::Cenc
         }
-        if octets::same(&code, b"cens") {
-            return Scheme::Cens;
-        }
-        if octets::same(&code, b"cbcs") {
-            return Scheme::Cbcs;
-        }
-        Scheme::Cenc
     }
 
     // The mode of operation that the scheme uses.
+    #[tactic(auto, unfolding(crate::specs::Machine::mode_of))]
     pub fn mode(self) -> Mode
         ensures { result ≡ mode_of self }
     {
         match self {
-            Scheme::Cenc => Mode::Counter,
-            Scheme::Cbc1 => Mode::Chain,
-            Scheme::Cens => Mode::Counter,
-            Scheme::Cbcs => Mode::Chain,
+            Scheme::Cenc | Scheme::Cens => Mode::Counter,
+            Scheme::Cbc1 | Scheme::Cbcs => Mode::Chain,
         }
     }
 }
 
 impl Pattern {
     // The pattern of a track, as its parameters have it.
+    #[tactic(auto, unfolding(crate::specs::Layout::pattern_of))]
     pub fn of(parameters: Parameters) -> Pattern
         ensures { result ≡ spec.pattern_of parameters }
     {

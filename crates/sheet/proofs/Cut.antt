@@ -1,5 +1,5 @@
 -- The lines depend on the first 4,097 bytes of the input alone, so that the program reads no more.
-use mathlib.Core.Bool.{Bool, true, false}
+use mathlib.Core.Bool.{Bool, true, false, cond}
 use mathlib.Core.List.{List}
 use mathlib.Core.Path.{◌≡◌, refl, sym, ap, ◌∙◌}
 use Prim.Native.Nat.{ℕ, ◌<◌}
@@ -7,10 +7,16 @@ use native.Mathlib.Omega.{arith}
 use lib.Dec.{ltb}
 use lib.ListN.{length, take}
 use lib.Seq.{length-take-le, take_all, take-take}
-use borrow.Author.Tests.{ltb-true, ltb-false}
-use Rattle.track_spec.specs.Track.{known}
-use Rattle.sheet.specs.Sheet.{lines}
-use Rattle.sheet.proofs.Cases.{over}
+use borrow.Author.Tests.{ltb-true, ltb-false, lt-ltb, le-ltb}
+use Rattle.octets.specs.Answers.{answer}
+use Rattle.track_spec.specs.Track.{known, read_rows, read_box}
+use Rattle.sheet.specs.Sheet.{refused, told, lines}
+
+-- over 4,096 bytes: 2 under a known code, and 1 under another
+over : (code : Bool) (s : List ℕ) → known (take 4 s) ≡ code → 4096 < length s → lines s ≡ cond code (refused 2) (refused 1)
+unfolding answer read_rows read_box told lines
+over true s k h = rw (le-ltb (length s) 4 (omega arith), k, lt-ltb 4096 (length s) h)
+over false s k h = rw (le-ltb (length s) 4 (omega arith), k)
 
 pub lines_cut : (s : List ℕ) → lines (take 4097 s) ≡ lines s
 lines_cut s = go (ltb 4097 (length s)) refl

@@ -1,4 +1,3 @@
 pub mod Texts
-pub mod Cases
 pub mod Cut
 pub mod Examples

@@ -1,10 +1,10 @@
 -- Document 01, "The sheet program": the lines written for the bytes read, a scheme code and then a box.
-use Rattle.std.specs.Prelude.{Bool, cond, ◌&&◌, List, ◌++◌, ◌≡◌, ℕ, ◌+◌, ◌≤◌, eqb, ltb, length, take, drop}
+use Rattle.std.specs.Prelude.{Bool, cond, ◌&&◌, List, ◌++◌, ℕ, eqb, ltb, length, take, drop}
 use Rattle.octets.specs.Ascii.{ascii}
 use Rattle.text.specs.Text.{decimal, hex}
 use Rattle.track_spec.specs.Track.{known, has_constant, read_box}
 use Rattle.track_spec.specs.declared.Parameters.{Parameters}
-use Rattle.track_spec.specs.declared.BoxRead.{BoxRead}
+use Rattle.track_spec.specs.Track.{BoxRead}
 
 abbrev pub line : List ℕ → List ℕ → List ℕ
 line name value = name ++ (value ++ ascii "\n")
@@ -40,9 +40,3 @@ unfoldable pub lines : List ℕ → List ℕ
 lines input =
     cond (ltb (length input) 4) (refused 1)
     (cond (known (take 4 input) && ltb 4096 (length input)) (refused 2) (told (read_box (take 4 input) (drop 4 input))))
-
--- A text stands from a place on, up to its end, and all else is as before.
-pub record Put (before after : List ℕ) (at : ℕ) (text : List ℕ) (end : ℕ) : Type 0 where
-  pub here : after ≡ take at before ++ (text ++ drop end before)
-  pub ends : end ≡ at + length text
-  pub fits : end ≤ length before

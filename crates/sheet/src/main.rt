@@ -1,140 +1,176 @@
 // A scheme code and then a box on standard input, told in lines (document 01, "The sheet program").
 #![tactic(auto)]
 
-ghost use Rattle.std.specs.Prelude.{◌≡◌, ◌++◌, ◌+◌, ◌≤◌, length, drop};
+ghost use Rattle.std.specs.Prelude.{List, ℕ, [], ◌≡◌, ◌++◌, ◌+◌, ◌≤◌, length, take};
 ghost use Rattle.text.specs.Text.{decimal};
+ghost use Rattle.refusals.specs.Refusals.{refusal_number};
+ghost use Rattle.track_spec.specs.Track.{has_constant, as_box_read};
 ghost use Rattle.sheet.specs.Sheet as spec;
 
 use std::io::Read;
-use track::{Parameters, StartVector, refusal};
+use std::marker::Model;
+use track::{Parameters, Refusal};
 
 // The longest input that is not refused for its length.
 const MAX_INPUT: usize = 4096;
 
-// Writes a text from a place on, and answers where it ends. The functions below do so with texts of their own. The output
-// has 160 bytes; a sheet has at most 140.
-fn put(text: &[u8], out: &mut [u8; 160], at: usize) -> usize
-    requires { at + length text.now ≤ 160 }
-    ensures { spec.Put out.old out.new at text.now result }
-{
-    octets::copy(text, out, at);
-    at + text.len()
+// The text written so far. A sheet has at most 140 bytes.
+#[derive(Drop)]
+struct Page {
+    bytes: [u8; 160],
+    end: usize,
 }
 
-// A number, without leading zeros.
-fn put_decimal(n: u8, out: &mut [u8; 160], at: usize) -> usize
-    requires { at + length (decimal n) ≤ 160 }
-    ensures { spec.Put out.old out.new at (decimal n) result }
-{
-    if n < 10 {
-        return put(&[text::digit(n)], out, at);
+// Clauses see the text.
+impl Model for Page {
+    ghost Value = { List ℕ };
+
+    ghost view = { λ p. take p.end p.bytes };
+
+    ghost invariant = { λ p. p.end ≤ 160 };
+}
+
+impl Page {
+    fn new() -> Page
+        ensures { result ≡ [] }
+    {
+        Page {
+            bytes: [0; 160],
+            end: 0,
+        }
     }
-    if n < 100 {
-        return put(&[text::digit(n / 10), text::digit(n % 10)], out, at);
+
+    fn text(&mut self, text: &[u8])
+        requires { length self.old + length text.now ≤ 160 }
+        ensures { self.new ≡ self.old ++ text.now }
+    {
+        let end = self.end + text.len();
+        self.bytes[self.end..end].copy_from_slice(text);
+        self.end = end;
     }
-    put(
-        &[
-            text::digit(n / 100),
-            text::digit(n / 10 % 10),
-            text::digit(n % 10),
-        ],
-        out,
-        at,
-    )
-}
 
-// A name, a value and a newline.
-fn text_line(name: &[u8], value: &[u8], out: &mut [u8; 160], at: usize) -> usize
-    requires { at + length (spec.line name.now value.now) ≤ 160 }
-    ensures { spec.Put out.old out.new at (spec.line name.now value.now) result }
-{
-    let at = put(name, out, at);
-    let at = put(value, out, at);
-    put(b"\n", out, at)
-}
+    // A number, without leading zeros.
+    #[tactic(auto, unfolding(text::specs::Text::decimal))]
+    fn decimal(&mut self, n: u8)
+        requires { length self.old + 3 ≤ 160 }
+        ensures { self.new ≡ self.old ++ decimal n }
+    {
+        if n < 10 {
+            self.text(&[text::digit(n)]);
+        } else if n < 100 {
+            self.text(&[text::digit(n / 10), text::digit(n % 10)]);
+        } else {
+            self.text(&[
+                text::digit(n / 100),
+                text::digit(n / 10 % 10),
+                text::digit(n % 10),
+            ]);
+        }
+    }
 
-fn number_line(name: &[u8], n: u8, out: &mut [u8; 160], at: usize) -> usize
-    requires { at + length (spec.line name.now (decimal n)) ≤ 160 }
-    ensures { spec.Put out.old out.new at (spec.line name.now (decimal n)) result }
-{
-    let at = put(name, out, at);
-    let at = put_decimal(n, out, at);
-    put(b"\n", out, at)
-}
+    // A name, a value and a newline.
+    fn line(&mut self, name: &[u8], value: &[u8])
+        requires { length self.old + length name.now + length value.now + 1 ≤ 160 }
+        ensures { self.new ≡ self.old ++ spec.line name.now value.now }
+    {
+        self.text(name);
+        self.text(value);
+        self.text(b"\n");
+    }
 
-// The crypt and the skip count.
-fn pattern_line(crypt: u8, skip: u8, out: &mut [u8; 160], at: usize) -> usize
-    requires { at + length (spec.pattern_line crypt skip) ≤ 160 }
-    ensures { spec.Put out.old out.new at (spec.pattern_line crypt skip) result }
-{
-    let at = put(b"pattern ", out, at);
-    let at = put_decimal(crypt, out, at);
-    let at = put(b":", out, at);
-    let at = put_decimal(skip, out, at);
-    put(b"\n", out, at)
-}
+    #[tactic(auto, using(crate::proofs::Texts::lengths))]
+    fn number_line(&mut self, name: &[u8], n: u8)
+        requires { length self.old + length name.now + 4 ≤ 160 }
+        ensures { self.new ≡ self.old ++ spec.line name.now (decimal n) }
+    {
+        self.text(name);
+        self.decimal(n);
+        self.text(b"\n");
+    }
 
-// The constant IV, or `none`.
-fn constant_line(
-    has: bool,
-    constant: [u8; StartVector::SIZE],
-    out: &mut [u8; 160],
-    at: usize,
-) -> usize
-    requires { at + length (spec.constant_line has constant) ≤ 160 }
-    ensures { spec.Put out.old out.new at (spec.constant_line has constant) result }
-{
-    if has {
-        text_line(b"constant ", &text::hex(constant), out, at)
-    } else {
-        text_line(b"constant ", b"none", out, at)
+    // The crypt and the skip count.
+    #[tactic(auto, using(crate::proofs::Texts::lengths), unfolding(crate::specs::Sheet::pattern_line))]
+    fn pattern_line(&mut self, crypt: u8, skip: u8)
+        requires { length self.old + 16 ≤ 160 }
+        ensures { self.new ≡ self.old ++ spec.pattern_line crypt skip }
+    {
+        self.text(b"pattern ");
+        self.decimal(crypt);
+        self.text(b":");
+        self.decimal(skip);
+        self.text(b"\n");
+    }
+
+    // The constant IV, or `none`.
+    #[tactic(auto, unfolding(crate::specs::Sheet::constant_line))]
+    fn constant_line(&mut self, p: Parameters)
+        requires { length self.old + 42 ≤ 160 }
+        ensures { self.new ≡ self.old ++ spec.constant_line (has_constant p.protected p.iv_size) p.constant_iv.0 }
+    {
+        if track::has_constant(p.protected, p.iv_size) {
+            self.line(b"constant ", &text::hex(p.constant_iv.0));
+        } else {
+            self.line(b"constant ", b"none");
+        }
+    }
+
+    fn written(&self) -> &[u8]
+        ensures { result.now ≡ self.now }
+    {
+        &self.bytes[..self.end]
     }
 }
 
 // The seven lines of parameters.
-fn sheet(p: Parameters, out: &mut [u8; 160]) -> usize
-    ensures { spec.Put out.old out.new 0 (spec.sheet p) result }
+#[tactic(auto, using(crate::proofs::Texts::lengths), unfolding(crate::specs::Sheet::sheet))]
+fn sheet(p: Parameters) -> Page
+    ensures { result ≡ spec.sheet p }
 {
-    let code = p.code;
-    let kid = p.kid;
-    let constant = p.constant_iv;
-    let at = text_line(b"scheme ", &code, out, 0);
-    let at = number_line(b"version ", p.version, out, at);
-    let at = pattern_line(p.crypt, p.skip, out, at);
-    let at = number_line(b"protected ", p.protected, out, at);
-    let at = number_line(b"iv ", p.iv_size, out, at);
-    let at = text_line(b"kid ", &text::hex(kid.bytes()), out, at);
-    let has = track::has_constant(p.protected, p.iv_size);
-    constant_line(has, constant.bytes(), out, at)
+    let mut page = Page::new();
+    page.line(b"scheme ", &p.code);
+    page.number_line(b"version ", p.version);
+    page.pattern_line(p.crypt, p.skip);
+    page.number_line(b"protected ", p.protected);
+    page.number_line(b"iv ", p.iv_size);
+    page.line(b"kid ", &text::hex(p.kid.0));
+    page.constant_line(p);
+    page
 }
 
 // One line with the number of a refusal.
-fn refused(answer: u8, out: &mut [u8; 160]) -> usize
-    ensures { spec.Put out.old out.new 0 (spec.refused answer) result }
+#[tactic(auto, unfolding(crate::specs::Sheet::refused))]
+fn refused(refusal: Refusal) -> Page
+    ensures { result ≡ spec.refused (refusal_number refusal) }
 {
-    number_line(b"refused ", answer, out, 0)
+    let mut page = Page::new();
+    page.number_line(b"refused ", refusal.number());
+    page
 }
 
-// Everything that is written for what was read, in front of the output, and how long it is.
-fn render(input: &[u8], out: &mut [u8; 160]) -> usize
-    ensures { (result ≡ length (spec.lines input.now)) × (out.new ≡ spec.lines input.now ++ drop result out.old) }
+// What reading a box tells.
+#[tactic(auto, using(refusals::proofs::Numbers::number_positive), unfolding(crate::specs::Sheet::told))]
+fn told(read: Result<Parameters, Refusal>) -> Page
+    ensures { result ≡ spec.told (as_box_read read) }
+{
+    match read {
+        Ok(parameters) => sheet(parameters),
+        Err(refusal) => refused(refusal),
+    }
+}
+
+// Everything that is written for what was read.
+#[tactic(auto, unfolding(crate::specs::Sheet::lines))]
+fn render(input: &[u8]) -> Page
+    ensures { result ≡ spec.lines input.now }
 {
     if input.len() < 4 {
-        return refused(refusal::SCHEME, out);
+        return refused(Refusal::Scheme);
     }
-    let read = track::read(&input[0..4], &input[4..]);
-    let answer = read.answer;
-    if answer == refusal::SCHEME {
-        return refused(answer, out);
+    let (code, track_box) = input.split_at(4);
+    if track::known(code) && MAX_INPUT < input.len() {
+        return refused(Refusal::Frame);
     }
-    if MAX_INPUT < input.len() {
-        return refused(refusal::FRAME, out);
-    }
-    if answer != refusal::DONE {
-        return refused(answer, out);
-    }
-    let parameters = read.parameters;
-    sheet(parameters, out)
+    told(track::read(code, track_box))
 }
 
 // Reads until the buffer is full or the input ends, and answers how many bytes it put at the buffer's start. A read error counts
@@ -157,9 +193,8 @@ fn read_full(input: &mut impl Read, buffer: &mut [u8]) -> usize
 fn main(rt: HostRuntime) {
     let mut input = [0u8; MAX_INPUT + 1];
     let n = read_full(&mut rt.stdin(), &mut input);
-    let mut out = [0u8; 160];
-    let r = render(&input[..n], &mut out);
-    if rt.write_all(&out[..r]).is_err() {
+    let page = render(&input[..n]);
+    if rt.write_all(page.written()).is_err() {
         let _ = rt.eprintln("sheet: cannot write to standard output");
     }
 }

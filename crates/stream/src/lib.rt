@@ -4,126 +4,78 @@
 ghost use Rattle.std.specs.Prelude.{true, ◌||◌, ◌++◌, ◌≡◌, ◌+◌, ◌≤◌, eqb, length, drop};
 ghost use Rattle.octets.specs.Bytes.{filled};
 ghost use Rattle.joined.specs.Joined.{joined_into};
-ghost use Rattle.sample_spec.specs.Sample.{inputs};
+ghost use Rattle.sample_spec.specs.Sample.{lent};
 ghost use Rattle.stream_spec.specs.Stream as spec;
 
 use aes::Block;
 use modes::{Direction, ModeBlock};
+pub use refusals::Refusal;
+pub use sample::Inputs;
 use stream_spec::Checked;
-pub use stream_spec::{Declared, Ended, Fed, Progress, Started, Stream, refusal};
+pub use stream_spec::{Declared, Fed, Progress, Stream};
 use subsample::SubsampleMap;
-use track::refusal::DONE;
 
 // Starts a stream of a sample of a declared length: 1 to 12.
-pub fn start(
-    direction: Direction,
-    code: &[u8],
-    track_box: &[u8],
-    auxiliary: &[u8],
-    key_record: &[u8],
-    sample_length: usize,
-) -> Started
-    ensures { result ≡ spec.start direction (inputs code.now track_box.now auxiliary.now key_record.now) sample_length }
+pub fn start(direction: Direction, inputs: Inputs, sample_length: usize) -> Result<Stream, Refusal>
+    ensures { spec.as_started result ≡ spec.start direction (lent inputs.entry) sample_length }
 {
-    let read = sample::read_inputs(code, track_box, auxiliary, key_record, sample_length);
-    if read.answer != DONE {
-        return Started {
-            answer: read.answer,
-            stream: Stream::idle(),
-        };
-    }
-    let parameters = read.parameters;
-    let map = read.map;
-    let key = read.key;
-    let iv = read.iv;
-    Started {
-        answer: DONE,
-        stream: Stream::begun(direction, parameters, sample_length, map, key, iv),
-    }
+    let read = sample::read_inputs(inputs, sample_length)?;
+    Ok(Stream::begun(
+        direction,
+        read.parameters,
+        sample_length,
+        read.map,
+        read.key,
+        read.iv,
+    ))
 }
 
-// No entries if unprotected.
-fn entries_allowed(protected: u8, count: usize) -> bool
-    ensures { result ≡ eqb protected 1 || eqb count 0 }
-{
-    protected == 1 || count == 0
-}
-
-// Whether what was declared keeps its rules.
+// Whether what was declared keeps its rules; no entries if unprotected.
+#[tactic(auto, unfolding(stream_spec::specs::Stream::sound_declared))]
 fn sound_declared(declared: Declared) -> bool
     ensures { result ≡ spec.sound_declared declared }
 {
-    let parameters = declared.parameters;
-    let map = declared.map;
-    let code = parameters.code;
-    if track::check(parameters) != DONE {
-        return false;
-    }
-    if SubsampleMap::LONGEST_SAMPLE < declared.length {
-        return false;
-    }
-    if subsample::check_map(code, map, declared.length) != DONE {
-        return false;
-    }
-    entries_allowed(parameters.protected, map.count)
+    track::check(declared.parameters).is_ok()
+        && declared.length <= SubsampleMap::LONGEST_SAMPLE
+        && subsample::check_map(declared.parameters.code, declared.map, declared.length).is_ok()
+        && (declared.parameters.protected == 1 || declared.map.count == 0)
 }
 
 // How many bytes are held at a position of the declared sample.
 fn held_by(declared: Declared, position: usize) -> usize
     ensures { result ≡ spec.held_by declared position }
 {
-    let parameters = declared.parameters;
-    let map = declared.map;
-    layout::held_at(parameters, map, declared.length, position)
+    layout::held_at(declared.parameters, declared.map, declared.length, position)
 }
 
 // Whether a record keeps its rules.
+#[tactic(auto, unfolding(stream_spec::specs::Stream::sound))]
 fn sound(stream: Stream) -> bool
     ensures { result ≡ spec.sound stream }
 {
-    let declared = stream.declared;
-    let progress = stream.progress;
-    if !sound_declared(declared) {
-        return false;
-    }
-    if declared.length < progress.position {
-        return false;
-    }
-    progress.held_count == held_by(declared, progress.position)
-}
-
-fn refused(answer: u8) -> Checked
-    ensures { result ≡ record { answer = answer; due = 0; kept = 0 } }
-{
-    Checked {
-        answer,
-        due: 0,
-        kept: 0,
-    }
+    sound_declared(stream.declared)
+        && stream.progress.position <= stream.declared.length
+        && stream.progress.held_count == held_by(stream.declared, stream.progress.position)
 }
 
 // What feeding n bytes with some room for output is answered, 13 to 15, how many bytes are due and how many are held after it.
-fn check(stream: Stream, n: usize, room: usize) -> Checked
-    ensures { result ≡ spec.check stream n room }
+#[tactic(auto, using(stream_spec::proofs::Rules::position_within, stream_spec::proofs::Rules::held_most, stream_spec::proofs::Rules::kept_within), unfolding(octets::specs::Answers::answer, stream_spec::specs::Stream::check, stream_spec::specs::Stream::feed_rows, stream_spec::specs::Stream::due))]
+fn check(stream: Stream, n: usize, room: usize) -> Result<Checked, Refusal>
+    ensures { spec.as_checked result ≡ spec.check stream n room }
 {
     if !sound(stream) {
-        return refused(refusal::RECORD);
+        return Err(Refusal::Record);
     }
-    let declared = stream.declared;
-    let progress = stream.progress;
+    let Stream { declared, progress } = stream;
     if declared.length - progress.position < n {
-        return refused(refusal::PAST);
+        return Err(Refusal::Past);
     }
     let kept = held_by(declared, progress.position + n);
     let due = progress.held_count + n - kept;
     if room < due {
-        return refused(refusal::OUTPUT);
+        return Err(Refusal::Output);
     }
-    Checked {
-        answer: DONE,
-        due,
-        kept,
-    }
+    Ok(Checked { due, kept })
 }
 
 // Fills the output with the first of the held bytes and the piece, and answers those after them, to be held.
@@ -132,27 +84,23 @@ fn take_due(progress: Progress, piece: &[u8], out: &mut [u8]) -> [u8; Block::SIZ
     ensures { (result ≡ filled 16 (drop (length out.old) ((spec.state_of progress).held ++ piece.now)))
         × (out.new ≡ joined_into (spec.state_of progress).held piece.now out.old) }
 {
-    let held = progress.held;
-    let held_count = progress.held_count;
-    let rest = joined::sixteen_at(&held[0..held_count], piece, out.len());
-    joined::join(&held[0..held_count], piece, out);
+    let held = &progress.held[..progress.held_count];
+    let rest = joined::sixteen_at(held, piece, out.len());
+    joined::join(held, piece, out);
     rest
 }
 
 // Ciphers a part of the declared sample where it lies, from a position on.
+#[tactic(auto, unfolding(stream_spec::specs::Stream::transformed_by))]
 fn transform(declared: Declared, from: usize, block: ModeBlock, part: &mut [u8]) -> ModeBlock
     ensures { (part.new ≡ (spec.transformed_by declared from block.0 part.old).released)
         × (result.0 ≡ (spec.transformed_by declared from block.0 part.old).state.block) }
 {
-    let direction = declared.direction;
-    let parameters = declared.parameters;
-    let map = declared.map;
-    let key = declared.key;
     part::transform(
-        key.round_keys(),
-        direction,
-        parameters,
-        map,
+        declared.key.round_keys(),
+        declared.direction,
+        declared.parameters,
+        declared.map,
         declared.length,
         from,
         block,
@@ -167,14 +115,12 @@ fn release(stream: Stream, piece: &[u8], kept: usize, out: &mut [u8]) -> Progres
     ensures { (result ≡ (spec.after_piece stream piece.now).progress)
         × (out.new ≡ (spec.fed_by stream piece.now).released) }
 {
-    let declared = stream.declared;
-    let progress = stream.progress;
+    let Stream { declared, progress } = stream;
     let rest = take_due(progress, piece, out);
-    let block = progress.block;
     let next = transform(
         declared,
         progress.position - progress.held_count,
-        block,
+        progress.block,
         out,
     );
     Progress {
@@ -185,54 +131,35 @@ fn release(stream: Stream, piece: &[u8], kept: usize, out: &mut [u8]) -> Progres
     }
 }
 
-// A piece that is refused, or empty.
-fn unchanged(answer: u8, stream: Stream) -> Fed
-    ensures { result ≡ record { answer = answer; released = 0; stream = stream } }
-{
-    Fed {
-        answer,
-        released: 0,
-        stream,
-    }
-}
-
 // Feeds a piece: 13 to 15. What is due is written from the output's byte 0 on, and nothing past it is touched.
-pub fn feed(stream: Stream, piece: &[u8], out: &mut [u8]) -> Fed
-    ensures { (result ≡ spec.feed stream piece.now (length out.old))
-        × (out.new ≡ spec.output_after stream piece.now out.old) }
+pub fn feed(stream: Stream, piece: &[u8], out: &mut [u8]) -> Result<Fed, Refusal>
+    ensures answer { spec.as_fed stream result ≡ spec.feed stream piece.now (length out.old) }
+    ensures output { out.new ≡ spec.output_after stream piece.now out.old }
 {
-    let checked = check(stream, piece.len(), out.len());
-    if checked.answer != DONE {
-        return unchanged(checked.answer, stream);
+    let checked = check(stream, piece.len(), out.len())?;
+    if piece.is_empty() {
+        return Ok(Fed {
+            released: 0,
+            stream,
+        });
     }
-    if piece.len() == 0 {
-        return unchanged(DONE, stream);
-    }
-    let due = checked.due;
-    let progress = release(stream, piece, checked.kept, &mut out[0..due]);
-    let declared = stream.declared;
-    Fed {
-        answer: DONE,
-        released: due,
-        stream: Stream { declared, progress },
-    }
+    let progress = release(stream, piece, checked.kept, &mut out[..checked.due]);
+    Ok(Fed {
+        released: checked.due,
+        stream: Stream { progress, ..stream },
+    })
 }
 
 // Ends a stream: 13 and 16.
-pub fn end(stream: Stream) -> Ended
-    ensures { result ≡ spec.end stream }
+#[tactic(auto, unfolding(octets::specs::Answers::answer, stream_spec::specs::Stream::end_rows, stream_spec::specs::Stream::end))]
+pub fn end(stream: Stream) -> Result<(), Refusal>
+    ensures { spec.as_ended result ≡ spec.end stream }
 {
     if !sound(stream) {
-        return Ended {
-            answer: refusal::RECORD,
-        };
+        return Err(Refusal::Record);
     }
-    let declared = stream.declared;
-    let progress = stream.progress;
-    if progress.position != declared.length {
-        return Ended {
-            answer: refusal::EARLY,
-        };
+    if stream.progress.position != stream.declared.length {
+        return Err(Refusal::Early);
     }
-    Ended { answer: DONE }
+    Ok(())
 }

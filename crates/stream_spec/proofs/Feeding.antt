@@ -12,8 +12,8 @@ use Rattle.octets.proofs.Answers.{Refusals, none, more, room_fits, size_fits}
 use Rattle.scheme.specs.Machine.{feed as feed_machine, feed_sample}
 use Rattle.scheme.specs.Part.{feed_under}
 use Rattle.stream_spec.specs.declared.Stream.{Stream}
-use Rattle.stream_spec.specs.declared.Checked.{Checked}
-use Rattle.stream_spec.specs.declared.Fed.{Fed}
+use Rattle.stream_spec.specs.Stream.{Checked}
+use Rattle.stream_spec.specs.Stream.{Fed}
 use Rattle.stream_spec.specs.Stream.{sound, kept, due, feed_rows, check, machine, fed_by, after_piece, feed, output_after}
 use Rattle.stream_spec.proofs.Rules.{done_sound, done_within, empty_piece, none_due, position_within}
 

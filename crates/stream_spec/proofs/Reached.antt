@@ -13,12 +13,13 @@ use Rattle.octets.specs.Answers.{answer}
 use Rattle.octets.proofs.Bytes.{filled-short}
 use Rattle.aes.specs.Block.{encipher_length, decipher_length}
 use Rattle.track_spec.specs.Track.{parameter_rows}
+use Rattle.subsample_spec.specs.declared.Entry.{Entry}
 use Rattle.subsample_spec.specs.Auxiliary.{longest, map_rows}
 use Rattle.scheme.specs.declared.Mode.{Mode}
 use Rattle.scheme.specs.declared.Mode.TheVariants.{Counter, Chain}
 use Rattle.scheme.specs.declared.Pattern.{Pattern}
 use Rattle.scheme.specs.declared.Scheme.{Scheme}
-use Rattle.scheme.specs.Layout.{scheme_of, pattern_of, Entry, mask, count}
+use Rattle.scheme.specs.Layout.{scheme_of, pattern_of, mask, count}
 use Rattle.scheme.specs.Machine.{State, Stepped, free, mode_of, feed_sample}
 use Rattle.scheme.specs.Held.{held_at}
 use Rattle.scheme.specs.Part.{entries_of, held_under, feed_under}

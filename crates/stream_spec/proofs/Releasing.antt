@@ -11,11 +11,12 @@ use Rattle.octets.specs.Bytes.{filled}
 use Rattle.aes.specs.Block.{round_keys, encipher, decipher, encipher_length, decipher_length}
 use Rattle.modes_spec.specs.Modes.{Cipher}
 use Rattle.track_spec.specs.declared.Parameters.{Parameters}
+use Rattle.subsample_spec.specs.declared.Entry.{Entry}
 use Rattle.subsample_spec.specs.declared.SubsampleMap.{SubsampleMap}
 use Rattle.subsample_spec.specs.Auxiliary.{limit}
 use Rattle.scheme.specs.declared.Pattern.{Pattern}
 use Rattle.scheme.specs.declared.Scheme.{Scheme}
-use Rattle.scheme.specs.Layout.{scheme_of, pattern_of, Entry, total, mask, count}
+use Rattle.scheme.specs.Layout.{scheme_of, pattern_of, total, mask, count}
 use Rattle.scheme.specs.Machine.{Stepped, free}
 use Rattle.scheme.specs.Held.{held_at}
 use Rattle.scheme.specs.Part.{entries_of, held_under, fits, feed_under, transformed}
@@ -41,8 +42,7 @@ stepped_is f x e h = rw (sym e, sym h)
 -- the arrays of a record have as many places as the code's types say
 pub record Places (t : Stream) : Type 0 where
   pub held : length t.progress.held ≡ 16
-  pub clear : length t.declared.map.clear ≡ limit
-  pub protected : length t.declared.map.protected ≡ limit
+  pub entries : length t.declared.map.entries ≡ limit
 
 module _ (t : Stream) (ok : sound t ≡ true) (w : Places t) (piece : List ℕ)
     (l : t.progress.position + length piece ≤ t.declared.length) where
@@ -132,7 +132,7 @@ module _ (t : Stream) (ok : sound t ≡ true) (w : Places t) (piece : List ℕ)
 
   module _ (one : p.protected ≡ 1) where
     whole : total es ≡ n
-    whole = ap total (protected_entries_lem p m n one) ∙ protected_total p m n w.clear w.protected rules.entries
+    whole = ap total (protected_entries_lem p m n one) ∙ protected_total p m n w.entries rules.entries
 
     asked : SampleAsks s pattern es x (length part) (count (take x (mask s pattern es)) % 16)
     asked =

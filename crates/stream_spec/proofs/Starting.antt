@@ -4,7 +4,7 @@ use Prim.Native.Nat.{ℕ}
 use borrow.Author.Tests.{ne_eqb}
 use Rattle.octets.specs.Answers.{answer}
 use Rattle.modes_spec.specs.declared.Direction.{Direction}
-use Rattle.sample_spec.specs.declared.InputsRead.{InputsRead}
+use Rattle.sample_spec.specs.Sample.{InputsRead}
 use Rattle.sample_spec.specs.Sample.{Inputs, sample_rows, handed_out, read_inputs}
 use Rattle.sample_spec.proofs.Tables.{inputs-accepted}
 use Rattle.stream_spec.specs.Stream.{begun, idle, start}

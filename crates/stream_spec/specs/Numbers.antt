@@ -4,14 +4,14 @@
 use Rattle.std.specs.Prelude.{List, [], ◌∷◌, ◌++◌, map, ℕ, length, take, drop, replicate}
 use Rattle.octets.specs.Answers.{answer}
 use Rattle.octets.specs.Ascii.{ascii}
-use Rattle.octets.specs.Bytes.{digits, filled}
+use Rattle.octets.specs.Bytes.{digits}
 use Rattle.octets.specs.Cases.{Case, is, Hold, span}
 use Rattle.modes_spec.specs.declared.Direction.TheVariants.{Lock, Open}
 use Rattle.track_spec.specs.declared.Parameters.{Parameters}
 use Rattle.track_spec.specs.Track.{cenc, cbc1, cens, cbcs, tenc, zeros, unprotected, read_box, parameter_rows, write_box, first_only, last_only}
+use Rattle.subsample_spec.specs.declared.Entry.{Entry}
 use Rattle.subsample_spec.specs.declared.SubsampleMap.{SubsampleMap}
-use Rattle.subsample_spec.specs.Auxiliary.{limit, empty_map, map_rows, read_under, read_auxiliary}
-use Rattle.scheme.specs.Layout.{Entry, entry}
+use Rattle.subsample_spec.specs.Auxiliary.{entry, places, empty_map, map_rows, read_under, read_auxiliary}
 use Rattle.sample_spec.specs.Sample.{Inputs, inputs, find_key, parameters_of, answered, read_inputs}
 use Rattle.stream_spec.specs.declared.Stream.{Stream}
 use Rattle.stream_spec.specs.Stream.{progress_of, start, feed, end}
@@ -238,24 +238,24 @@ pub record GivenMap : Type 0 where
   pub map : SubsampleMap
   pub length : ℕ
 
-abbrev pub map_with : List ℕ → List ℕ → ℕ → SubsampleMap
-map_with clear protected count = record { clear = filled limit clear; protected = filled limit protected; count = count }
+abbrev pub map_with : List Entry → ℕ → SubsampleMap
+map_with es count = record { entries = places es; count = count }
 
 abbrev pub of_map : List ℕ → SubsampleMap → ℕ → GivenMap
 of_map code m n = record { code = code; map = m; length = n }
 
 unfoldable pub maps : List (Asked GivenMap)
 maps =
-    gives (of_map cenc empty_map 5) 0 ∷ gives (of_map cenc (map_with (2 ∷ []) (3 ∷ []) 1) 5) 0
-    ∷ gives (of_map cenc (map_with [] (replicate 64 1) 64) 64) 0
-    ∷ gives (of_map cenc (map_with [] [] 1) 0) 0 ∷ gives (of_map cenc (map_with [] (31 ∷ []) 1) 31) 0
-    ∷ gives (of_map cenc (map_with [] (replicate 64 1) 65) 64) 9
-    ∷ gives (of_map cenc (map_with (1 ∷ []) [] 2) 1) 10
-    ∷ gives (of_map cenc (map_with (2 ∷ []) (3 ∷ []) 1) 6) 11
-    ∷ gives (of_map cbc1 (map_with [] (31 ∷ []) 1) 31) 12
+    gives (of_map cenc empty_map 5) 0 ∷ gives (of_map cenc (map_with (entry 2 3 ∷ []) 1) 5) 0
+    ∷ gives (of_map cenc (map_with (replicate 64 (entry 0 1)) 64) 64) 0
+    ∷ gives (of_map cenc (map_with [] 1) 0) 0 ∷ gives (of_map cenc (map_with (entry 0 31 ∷ []) 1) 31) 0
+    ∷ gives (of_map cenc (map_with (replicate 64 (entry 0 1)) 65) 64) 9
+    ∷ gives (of_map cenc (map_with (entry 1 0 ∷ []) 2) 1) 10
+    ∷ gives (of_map cenc (map_with (entry 2 3 ∷ []) 1) 6) 11
+    ∷ gives (of_map cbc1 (map_with (entry 0 31 ∷ []) 1) 31) 12
     -- 9 before 10, 10 before 11, 11 before 12
-    ∷ gives (of_map cenc (map_with [] [] 65) 1) 9 ∷ gives (of_map cenc (map_with [] [] 1) 1) 10
-    ∷ gives (of_map cbc1 (map_with [] (31 ∷ []) 1) 32) 11 ∷ []
+    ∷ gives (of_map cenc (map_with [] 65) 1) 9 ∷ gives (of_map cenc (map_with [] 1) 1) 10
+    ∷ gives (of_map cbc1 (map_with (entry 0 31 ∷ []) 1) 32) 11 ∷ []
 
 -- ---- The record of a stream: "Record rules".
 
@@ -278,11 +278,11 @@ unsound =
     ∷ stream_at (cenc8_under zeros) 20 empty_map 10 0
     -- "map and declared length meet 7 and 9 to 12, with no entries if unprotected"
     ∷ stream_at cenc8 16777217 empty_map 10 0
-    ∷ stream_at cenc8 64 (map_with [] (replicate 64 1) 65) 10 0
-    ∷ stream_at cenc8 20 (map_with (20 ∷ []) [] 2) 10 0
-    ∷ stream_at cenc8 20 (map_with [] (19 ∷ []) 1) 10 0
-    ∷ stream_at cbc1_track 31 (map_with [] (31 ∷ []) 1) 20 0
-    ∷ stream_at unprotected 20 (map_with (20 ∷ []) [] 1) 10 0
+    ∷ stream_at cenc8 64 (map_with (replicate 64 (entry 0 1)) 65) 10 0
+    ∷ stream_at cenc8 20 (map_with (entry 20 0 ∷ []) 2) 10 0
+    ∷ stream_at cenc8 20 (map_with (entry 0 19 ∷ []) 1) 10 0
+    ∷ stream_at cbc1_track 31 (map_with (entry 0 31 ∷ []) 1) 20 0
+    ∷ stream_at unprotected 20 (map_with (entry 20 0 ∷ []) 1) 10 0
     -- "the position is at most the length, and the held count is what the position calls for"
     ∷ stream_at cenc8 20 empty_map 21 0
     ∷ stream_at cenc8 20 empty_map 10 1

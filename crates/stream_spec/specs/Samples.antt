@@ -6,9 +6,10 @@ use Rattle.modes_spec.specs.declared.Direction.TheVariants.{Lock}
 use Rattle.modes_spec.specs.Modes.{counter_at}
 use Rattle.modes_spec.specs.Examples.{telling}
 use Rattle.track_spec.specs.Track.{cenc, cbc1, cens, cbcs, tenc, fields}
-use Rattle.subsample_spec.specs.Auxiliary.{empty_map}
+use Rattle.subsample_spec.specs.declared.Entry.{Entry}
+use Rattle.subsample_spec.specs.Auxiliary.{empty_map, entry}
 use Rattle.scheme.specs.declared.Scheme.TheVariants.{Cenc, Cbc1, Cens, Cbcs}
-use Rattle.scheme.specs.Layout.{scheme_of, pattern_of, Entry, entry, mask}
+use Rattle.scheme.specs.Layout.{scheme_of, pattern_of, mask}
 use Rattle.scheme.specs.WholeSample.{whole}
 use Rattle.scheme.specs.Examples.{crypt_skip}
 use Rattle.scheme.specs.Part.{protected_entries, entries_of, held_under}

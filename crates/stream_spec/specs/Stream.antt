@@ -1,5 +1,9 @@
 -- Document 01, "Pieces": the record of a stream and its rules, start, feeding and end.
 use Rattle.std.specs.Prelude.{Bool, cond, not, ◌&&◌, ◌||◌, List, [], ◌∷◌, ◌++◌, ℕ, ◌+◌, ◌-◌, eqb, leb, ltb, length, take, drop}
+use Rattle.std.specs.declared.result.Result.{Result}
+use Rattle.std.specs.declared.result.Result.TheVariants.{Ok, Err}
+use Rattle.refusals.specs.declared.Refusal.{Refusal}
+use Rattle.refusals.specs.Refusals.{refusal_number, answer_of}
 use Rattle.octets.specs.Answers.{Row, row, answer}
 use Rattle.octets.specs.Bytes.{filled}
 use Rattle.aes.specs.Block.{round_keys, encipher, decipher}
@@ -13,10 +17,29 @@ use Rattle.sample_spec.specs.Sample.{Inputs, parameters_of, key_of, map_of, iv_o
 use Rattle.stream_spec.specs.declared.Declared.{Declared}
 use Rattle.stream_spec.specs.declared.Progress.{Progress}
 use Rattle.stream_spec.specs.declared.Stream.{Stream}
-use Rattle.stream_spec.specs.declared.Started.{Started}
-use Rattle.stream_spec.specs.declared.Checked.{Checked}
-use Rattle.stream_spec.specs.declared.Fed.{Fed}
-use Rattle.stream_spec.specs.declared.Ended.{Ended}
+use Rattle.stream_spec.specs.declared.Checked.{Checked as Counts}
+use Rattle.stream_spec.specs.declared.Fed.{Fed as Accepted}
+
+-- What starting a stream answers.
+pub record Started : Type 0 where
+  pub answer : ℕ
+  pub stream : Stream
+
+-- What a piece is answered before it is fed, and if accepted how many bytes it makes due and how many are held after it.
+pub record Checked : Type 0 where
+  pub answer : ℕ
+  pub due : ℕ
+  pub kept : ℕ
+
+-- What feeding a piece answers: how many bytes were released, and the record after it.
+pub record Fed : Type 0 where
+  pub answer : ℕ
+  pub released : ℕ
+  pub stream : Stream
+
+-- What ending a stream answers.
+pub record Ended : Type 0 where
+  pub answer : ℕ
 
 -- ---- The record.
 
@@ -58,6 +81,11 @@ abbrev pub declared_by : Direction → Inputs → ℕ → Declared
 declared_by d i n =
     record { direction = d; parameters = parameters_of i; length = n; map = map_of i; key = record { 0 = key_of i } }
 
+-- The answer of a start as a number and a record; a refusal has that of an empty unprotected track.
+abbrev pub as_started : Result Stream Refusal → Started
+as_started (Ok s) = record { answer = 0; stream = s }
+as_started (Err r) = record { answer = refusal_number r; stream = idle }
+
 unfoldable pub start : Direction → Inputs → ℕ → Started
 start d i n =
     record {
@@ -92,6 +120,11 @@ unfoldable pub feed_rows : Stream → ℕ → ℕ → List Row
 feed_rows t n room =
     row 13 (not (sound t)) ∷ row 14 (ltb t.declared.length (t.progress.position + n)) ∷ row 15 (ltb room (due t n)) ∷ []
 
+-- The answer of a check as a number and counts, 0 for a refusal.
+abbrev pub as_checked : Result Counts Refusal → Checked
+as_checked (Ok c) = record { answer = 0; due = c.due; kept = c.kept }
+as_checked (Err r) = record { answer = refusal_number r; due = 0; kept = 0 }
+
 -- The answer, and if it is 0 what is due and what is held after it.
 unfoldable pub check : Stream → ℕ → ℕ → Checked
 check t n room =
@@ -120,6 +153,16 @@ fed_by t piece = machine t.declared (state_of t.progress) piece
 abbrev pub after_piece : Stream → List ℕ → Stream
 after_piece t piece = record { declared = t.declared; progress = progress_of (fed_by t piece).state }
 
+-- The answer of a feeding as a number, a count and a record; a refusal releases nothing and leaves the record as it was.
+abbrev pub as_fed : Stream → Result Accepted Refusal → Fed
+as_fed t (Ok f) = record { answer = 0; released = f.released; stream = f.stream }
+as_fed t (Err r) = record { answer = refusal_number r; released = 0; stream = t }
+
+-- The same over a record that is lent, from the count and the record after the call.
+abbrev pub as_fed_in_place : Result ℕ Refusal → Stream → Fed
+as_fed_in_place (Ok n) t = record { answer = 0; released = n; stream = t }
+as_fed_in_place (Err r) t = record { answer = refusal_number r; released = 0; stream = t }
+
 -- The answer; a refused or an empty piece leaves the record as it was.
 unfoldable pub feed : Stream → List ℕ → ℕ → Fed
 feed t piece room =
@@ -139,6 +182,10 @@ output_after t piece out =
 
 unfoldable pub end_rows : Stream → List Row
 end_rows t = row 13 (not (sound t)) ∷ row 16 (not (eqb t.progress.position t.declared.length)) ∷ []
+
+-- The answer of an end as a number.
+abbrev pub as_ended : Result (Unit {0}) Refusal → Ended
+as_ended r = record { answer = answer_of r }
 
 unfoldable pub end : Stream → Ended
 end t = record { answer = answer (end_rows t) }

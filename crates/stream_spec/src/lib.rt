@@ -1,8 +1,5 @@
-// A sample in pieces: the record of a stream, and what start, feeding and end answer; definitions and theorems (document 01,
-// "Pieces").
+// A sample in pieces: the record of a stream; definitions and theorems (document 01, "Pieces").
 #![tactic(auto)]
-
-pub mod refusal;
 
 ghost use Rattle.std.specs.Prelude.{◌≡◌};
 ghost use Rattle.stream_spec.specs.Stream as spec;
@@ -79,7 +76,7 @@ impl Stream {
         }
     }
 
-    // The record of a refused start: an empty unprotected cenc track, set to open.
+    // The record of an empty unprotected cenc track, set to open, which stands where no stream was started.
     pub fn idle() -> Stream
         ensures { result ≡ spec.idle }
     {
@@ -88,37 +85,22 @@ impl Stream {
             Parameters::unprotected(),
             0,
             SubsampleMap::empty(),
-            Key::new([0; Key::SIZE]),
-            StartVector::new([0; StartVector::SIZE]),
+            Key([0; Key::SIZE]),
+            StartVector([0; StartVector::SIZE]),
         )
     }
 }
 
-// What starting a stream answers.
-#[derive(Clone, Copy)]
-pub struct Started {
-    pub answer: u8,
-    pub stream: Stream,
-}
-
-// What a piece is answered before it is fed, and if accepted how many bytes it makes due and how many are held after it.
+// How many bytes a piece makes due, and how many are held after it.
 #[derive(Clone, Copy)]
 pub struct Checked {
-    pub answer: u8,
     pub due: usize,
     pub kept: usize,
 }
 
-// What feeding a piece answers: how many bytes were released, and the record after it.
+// What feeding a piece releases: how many bytes, and the record after it.
 #[derive(Clone, Copy)]
 pub struct Fed {
-    pub answer: u8,
     pub released: usize,
     pub stream: Stream,
-}
-
-// What ending a stream answers.
-#[derive(Clone, Copy)]
-pub struct Ended {
-    pub answer: u8,
 }

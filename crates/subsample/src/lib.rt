@@ -1,170 +1,123 @@
 // A sample's auxiliary data, read: the IV and the subsample map (document 01, "A sample's auxiliary data").
 #![tactic(auto)]
 
-ghost use Rattle.std.specs.Prelude.{◌≡◌, ◌+◌, ◌*◌, ◌≤◌, length};
-ghost use Rattle.octets.specs.Bytes.{list_of, number, filled};
-ghost use Rattle.track_spec.specs.Track.{zeros};
+ghost use Rattle.std.specs.Prelude.{◌≡◌, ◌≤◌, length};
 ghost use Rattle.subsample_spec.specs.Auxiliary as spec;
 
+pub use refusals::Refusal;
 pub use subsample_map::check_map;
-pub use subsample_spec::{AuxiliaryRead, SubsampleMap, refusal};
-use track::refusal::DONE;
+pub use subsample_spec::{Auxiliary, Entry, SubsampleMap};
 use track::{Parameters, StartVector};
-
-// A byte of a string, as a length.
-fn wide(x: u8) -> usize
-    ensures { result ≡ x }
-{
-    x as usize
-}
 
 // The bytes of the IV that the data begins with; that of an unprotected track has none.
 fn iv_length(p: Parameters) -> usize
     ensures { result ≡ spec.iv_length p }
 {
     if p.protected == 1 {
-        return wide(p.iv_size);
+        p.iv_size as usize
+    } else {
+        0
     }
-    0
 }
 
 // Whether something follows the IV of a protected track.
 fn written(p: Parameters, auxiliary: &[u8]) -> bool
     ensures { result ≡ spec.written p auxiliary.now }
 {
-    if p.protected != 1 {
-        return false;
-    }
-    wide(p.iv_size) < auxiliary.len()
+    p.protected == 1 && (p.iv_size as usize) < auxiliary.len()
 }
 
 // The count of entries written, 0 if none is.
+#[tactic(auto, unfolding(subsample_spec::specs::Auxiliary::entry_count))]
 fn entry_count(p: Parameters, auxiliary: &[u8]) -> usize
     ensures { result ≡ spec.entry_count p auxiliary.now }
 {
     if written(p, auxiliary) {
-        numbers::be16(auxiliary, wide(p.iv_size)) as usize
+        numbers::be16(auxiliary, p.iv_size as usize) as usize
     } else {
         0
     }
 }
 
 // 8: the size of the auxiliary data.
+#[tactic(auto, unfolding(subsample_spec::specs::Auxiliary::bad_size))]
 fn bad_size(p: Parameters, auxiliary: &[u8]) -> bool
     ensures { result ≡ spec.bad_size p auxiliary.now }
 {
-    let iv = wide(p.iv_size);
     if !written(p, auxiliary) {
         return auxiliary.len() != iv_length(p);
     }
-    if auxiliary.len() < iv + 2 {
-        return true;
-    }
-    let count = numbers::be16(auxiliary, iv) as usize;
-    if count == 0 {
-        return true;
-    }
-    auxiliary.len() != iv + 2 + 6 * count
+    let first = p.iv_size as usize + 2;
+    let count = numbers::be16(auxiliary, p.iv_size as usize) as usize;
+    auxiliary.len() < first || count == 0 || auxiliary.len() != first + 6 * count
 }
 
-// The clear lengths of `count` entries that begin at a place.
-fn clear_lengths(first: usize, count: usize, auxiliary: &[u8]) -> [u16; SubsampleMap::LIMIT]
-    requires { (count ≤ spec.limit) × (first ≤ 512) }
-    ensures { result ≡ filled spec.limit (list_of count (λ i. number 2 auxiliary.now (first + 6 * i))) }
-{
-    let mut out = [0u16; SubsampleMap::LIMIT];
-    let mut i = 0;
-    while i < count {
-        out[i] = numbers::be16(auxiliary, first + 6 * i);
-        i += 1;
-    }
-    out
-}
-
-fn protected_lengths(first: usize, count: usize, auxiliary: &[u8]) -> [u32; SubsampleMap::LIMIT]
-    requires { (count ≤ spec.limit) × (first ≤ 512) }
-    ensures { result ≡ filled spec.limit (list_of count (λ i. number 4 auxiliary.now (first + 6 * i))) }
-{
-    let mut out = [0u32; SubsampleMap::LIMIT];
-    let mut i = 0;
-    while i < count {
-        out[i] = numbers::be32(auxiliary, first + 6 * i);
-        i += 1;
-    }
-    out
-}
-
-// The map that is written.
+// The map that is written: entries of a clear length of two bytes and a protected one of four.
 fn read_map(p: Parameters, count: usize, auxiliary: &[u8]) -> SubsampleMap
     requires { (count ≡ spec.entry_count p auxiliary.now) × (count ≤ spec.limit) }
     ensures { result ≡ spec.map_read p auxiliary.now }
 {
-    let iv = wide(p.iv_size);
-    SubsampleMap::new(
-        clear_lengths(iv + 2, count, auxiliary),
-        protected_lengths(iv + 4, count, auxiliary),
-        count,
-    )
-}
-
-fn refused(answer: u8) -> AuxiliaryRead
-    ensures { result ≡ record { answer = answer; map = spec.empty_map; iv = record { 0 = zeros } } }
-{
-    AuxiliaryRead {
-        answer,
-        map: SubsampleMap::empty(),
-        iv: StartVector::new([0; StartVector::SIZE]),
+    let iv = p.iv_size as usize;
+    let mut map = SubsampleMap::empty();
+    map.count = count;
+    for i in 0..count {
+        map.entries[i] = Entry {
+            clear: numbers::be16(auxiliary, iv + 2 + 6 * i),
+            protected: numbers::be32(auxiliary, iv + 4 + 6 * i),
+        };
     }
+    map
 }
 
 // The IV, filled out with zeros; the constant one where the track has one; zero if it is unprotected.
+#[tactic(auto, unfolding(subsample_spec::specs::Auxiliary::iv_read))]
 fn read_iv(p: Parameters, auxiliary: &[u8]) -> [u8; StartVector::SIZE]
     requires { spec.iv_length p ≤ length auxiliary.now }
     ensures { result ≡ spec.iv_read p auxiliary.now }
 {
-    let iv = p.constant_iv;
     if track::has_constant(p.protected, p.iv_size) {
-        return iv.bytes();
+        p.constant_iv.0
+    } else {
+        octets::filled(&auxiliary[..iv_length(p)])
     }
-    let size = iv_length(p);
-    octets::sixteen(&auxiliary[0..size])
 }
 
 // Reads auxiliary data under given parameters: 7 to 12.
-pub fn read_under(parameters: Parameters, auxiliary: &[u8], length: usize) -> AuxiliaryRead
-    ensures { result ≡ spec.read_under parameters auxiliary.now «length» }
+#[tactic(auto, unfolding(subsample_spec::specs::Auxiliary::read_under, subsample_spec::specs::Auxiliary::handed_out, subsample_spec::specs::Auxiliary::auxiliary_rows, octets::specs::Answers::answer))]
+pub fn read_under(
+    parameters: Parameters,
+    auxiliary: &[u8],
+    length: usize,
+) -> Result<Auxiliary, Refusal>
+    ensures { spec.as_auxiliary_read result ≡ spec.read_under parameters auxiliary.now «length» }
 {
     if SubsampleMap::LONGEST_SAMPLE < length {
-        return refused(refusal::LENGTH);
+        return Err(Refusal::Length);
     }
     if bad_size(parameters, auxiliary) {
-        return refused(refusal::SIZE);
+        return Err(Refusal::Size);
     }
     let count = entry_count(parameters, auxiliary);
     if SubsampleMap::LIMIT < count {
-        return refused(refusal::ENTRIES);
+        return Err(Refusal::Entries);
     }
     let map = read_map(parameters, count, auxiliary);
-    let code = parameters.code;
-    let answer = check_map(code, map, length);
-    if answer != DONE {
-        return refused(answer);
-    }
-    AuxiliaryRead {
-        answer,
+    check_map(parameters.code, map, length)?;
+    Ok(Auxiliary {
         map,
-        iv: StartVector::new(read_iv(parameters, auxiliary)),
-    }
+        iv: StartVector(read_iv(parameters, auxiliary)),
+    })
 }
 
 // Reads auxiliary data under a scheme code and a track box: 1 to 4, then 7 to 12.
-pub fn read(code: &[u8], track_box: &[u8], auxiliary: &[u8], length: usize) -> AuxiliaryRead
-    ensures { result ≡ spec.read_auxiliary code.now track_box.now auxiliary.now «length» }
+pub fn read(
+    code: &[u8],
+    track_box: &[u8],
+    auxiliary: &[u8],
+    length: usize,
+) -> Result<Auxiliary, Refusal>
+    ensures { spec.as_auxiliary_read result ≡ spec.read_auxiliary code.now track_box.now auxiliary.now «length» }
 {
-    let track = track::read(code, track_box);
-    if track.answer != DONE {
-        return refused(track.answer);
-    }
-    let parameters = track.parameters;
+    let parameters = track::read(code, track_box)?;
     read_under(parameters, auxiliary, length)
 }

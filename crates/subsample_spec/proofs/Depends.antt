@@ -1,15 +1,15 @@
 -- What the answers depend on, and that accepted lengths add up.
 use mathlib.Core.Bool.{true, false}
 use mathlib.Core.List.{List, ◌++◌}
-use mathlib.Core.Path.{◌≡◌, refl, ap, ◌∙◌}
+use mathlib.Core.Path.{◌≡◌, refl, ap, ◌∙◌, fun_ext}
 use Prim.Native.Nat.{ℕ, ◌+◌, ◌*◌, ◌≤◌, ◌<◌}
 use native.Mathlib.Omega.{arith}
 use lib.Dec.{eqb, ltb}
 use lib.ListN.{length, get_or}
 use borrow.Author.Tests.{eqb-true, eqb-false, lt-ltb, not-false}
 use Rattle.octets.specs.Answers.{answer}
-use Rattle.octets.specs.Bytes.{list_of, number}
-use Rattle.octets.proofs.Alike.{list_of_alike, number_alike}
+use Rattle.octets.specs.Bytes.{number}
+use Rattle.octets.proofs.Alike.{number_alike}
 use Rattle.octets.proofs.Answers.{done_head, done_tail, join_alike}
 use Rattle.octets.proofs.Tests.{or_false_left, or_false_right}
 use Rattle.track_spec.specs.declared.Parameters.{Parameters}
@@ -17,7 +17,7 @@ use Rattle.track_spec.specs.Track.{fields_from, fields, read_rows}
 use Rattle.track_spec.proofs.Checking.{read_refusals}
 use Rattle.track_spec.specs.Depends.{AlikeBoxes}
 use Rattle.track_spec.proofs.Depends.{read_alike}
-use Rattle.subsample_spec.specs.Auxiliary.{sum, entry_length, written, count_written, bad_size, entry_count, map_read, map_rows, auxiliary_rows}
+use Rattle.subsample_spec.specs.Auxiliary.{sum, entry_length, written, count_written, bad_size, entry_count, entry_written, map_read, map_rows, auxiliary_rows}
 use Rattle.subsample_spec.specs.Depends.{AlikeData}
 
 module _ {p q : Parameters} {a b : List ℕ} (s : AlikeData p q a b) where
@@ -35,19 +35,19 @@ module _ {p q : Parameters} {a b : List ℕ} (s : AlikeData p q a b) where
   unfolding entry_count
   entries_alike = rw (← s.protected, ← s.iv_size, s.size, count_alike)
 
-  -- the numbers of w bytes, k bytes after the IV and every 6 bytes on
-  lengths_alike : (w k : ℕ)
-      → list_of (entry_count p a) (λ i. number w a (p.iv_size + k + 6 * i))
-      ≡ list_of (entry_count q b) (λ i. number w b (q.iv_size + k + 6 * i))
-  lengths_alike w k =
-      ap (λ (n : ℕ). list_of n (λ i. number w a (p.iv_size + k + 6 * i))) entries_alike
-      ∙ list_of_alike (entry_count q b) (λ i. number w a (p.iv_size + k + 6 * i)) (λ i. number w b (q.iv_size + k + 6 * i))
-      (λ i l.
-      after_alike w (p.iv_size + k + 6 * i) (omega arith) ∙ ap (λ (v : ℕ). number w b (v + k + 6 * i)) s.iv_size)
+  -- the number of w bytes, k bytes after the IV and i entries on
+  length_alike : (w k i : ℕ) → number w a (p.iv_size + k + 6 * i) ≡ number w b (q.iv_size + k + 6 * i)
+  length_alike w k i =
+      after_alike w (p.iv_size + k + 6 * i) (omega arith) ∙ ap (λ (v : ℕ). number w b (v + k + 6 * i)) s.iv_size
+
+  entry_alike : (i : ℕ) → entry_written p a i ≡ entry_written q b i
+  entry_alike i = rw (length_alike 2 2 i, length_alike 4 4 i)
 
   pub map_alike : map_read p a ≡ map_read q b
   unfolding map_read
-  map_alike = rw (lengths_alike 2 2, lengths_alike 4 4, entries_alike)
+  map_alike =
+      let f : entry_written p a ≡ entry_written q b = fun_ext entry_alike in
+      rw (entries_alike, f)
 
   -- the answer does not depend on IV bytes, under given parameters
   pub auxiliary_alike : (n : ℕ) → answer (auxiliary_rows p a n) ≡ answer (auxiliary_rows q b n)

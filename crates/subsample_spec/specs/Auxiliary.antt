@@ -1,12 +1,24 @@
 -- Document 01, "A sample's auxiliary data": the IV, the subsample map, and the numbers 7 to 12.
-use Rattle.std.specs.Prelude.{Bool, false, cond, not, ◌&&◌, ◌||◌, List, [], ◌∷◌, ◌++◌, refl, ℕ, zero, suc, ◌+◌, ◌*◌, ◌%◌, eqb, ltb, length, get_or, take, replicate}
+use Rattle.std.specs.Prelude.{Bool, false, cond, not, ◌&&◌, ◌||◌, List, [], ◌∷◌, ◌++◌, map, refl, ℕ, zero, suc, ◌+◌, ◌*◌, ◌%◌, eqb, ltb, length, get_or, take, replicate}
+use Rattle.std.specs.declared.result.Result.{Result}
+use Rattle.std.specs.declared.result.Result.TheVariants.{Ok, Err}
+use Rattle.refusals.specs.declared.Refusal.{Refusal}
+use Rattle.refusals.specs.Refusals.{refusal_number}
 use Rattle.octets.specs.Answers.{Row, row, answer}
 use Rattle.octets.specs.Bytes.{list_of, same, number, filled}
 use Rattle.octets.specs.Cases.{Case, is, all_made, all_said, Hold, span}
 use Rattle.track_spec.specs.Track.{cenc, cbc1, zeros, has_constant, fields, read_rows}
 use Rattle.track_spec.specs.declared.Parameters.{Parameters}
+use Rattle.track_spec.specs.declared.StartVector.{StartVector}
+use Rattle.subsample_spec.specs.declared.Entry.{Entry}
 use Rattle.subsample_spec.specs.declared.SubsampleMap.{SubsampleMap}
-use Rattle.subsample_spec.specs.declared.AuxiliaryRead.{AuxiliaryRead}
+use Rattle.subsample_spec.specs.declared.Auxiliary.{Auxiliary}
+
+-- What reading auxiliary data answers.
+pub record AuxiliaryRead : Type 0 where
+  pub answer : ℕ
+  pub map : SubsampleMap
+  pub iv : StartVector
 
 -- The most entries that a map holds.
 abbrev pub limit : ℕ
@@ -27,14 +39,25 @@ sum f (suc n) = sum f n + f n
 
 -- ---- The map.
 
+-- An entry of so many clear and so many protected bytes.
+abbrev pub entry : ℕ → ℕ → Entry
+entry a n = record { clear = a; protected = n }
+
+abbrev pub entry_at : SubsampleMap → ℕ → Entry
+entry_at m i = get_or m.entries i (entry 0 0)
+
 abbrev pub clear_at : SubsampleMap → ℕ → ℕ
-clear_at m i = get_or m.clear i 0
+clear_at m i = (entry_at m i).clear
 
 abbrev pub protected_at : SubsampleMap → ℕ → ℕ
-protected_at m i = get_or m.protected i 0
+protected_at m i = (entry_at m i).protected
+
+-- The places of a map that begin with given entries; the rest are 0 and 0.
+unfoldable pub places : List Entry → List Entry
+places es = take limit (es ++ replicate limit (entry 0 0))
 
 abbrev pub empty_map : SubsampleMap
-empty_map = record { clear = replicate limit 0; protected = replicate limit 0; count = 0 }
+empty_map = record { entries = replicate limit (entry 0 0); count = 0 }
 
 -- Entry i is 0 and 0; its protected length isn't a multiple of 16; both its lengths together.
 abbrev pub empty_entry : SubsampleMap → ℕ → Bool
@@ -76,17 +99,16 @@ bad_size p aux =
     || not (eqb (length aux) (p.iv_size + 2 + 6 * count_written p aux)))
     (not (eqb (length aux) (iv_length p)))
 
--- The entries written and their count, 0 if none; unused places are zero.
+-- How many entries are written, 0 if none; the i-th; the map of all.
 unfoldable pub entry_count : Parameters → List ℕ → ℕ
 entry_count p aux = cond (written p aux) (count_written p aux) 0
 
+abbrev pub entry_written : Parameters → List ℕ → ℕ → Entry
+entry_written p aux i = entry (number 2 aux (p.iv_size + 2 + 6 * i)) (number 4 aux (p.iv_size + 4 + 6 * i))
+
 unfoldable pub map_read : Parameters → List ℕ → SubsampleMap
 map_read p aux =
-    record {
-      clear = filled limit (list_of (entry_count p aux) (λ i. number 2 aux (p.iv_size + 2 + 6 * i)));
-      protected = filled limit (list_of (entry_count p aux) (λ i. number 4 aux (p.iv_size + 4 + 6 * i)));
-      count = entry_count p aux;
-    }
+    record { entries = places (list_of (entry_count p aux) (entry_written p aux)); count = entry_count p aux }
 
 -- The IV filled out with zeros; the constant one where the track has one; zero if it is unprotected.
 unfoldable pub iv_read : Parameters → List ℕ → List ℕ
@@ -95,6 +117,11 @@ iv_read p aux = cond (has_constant p.protected p.iv_size) p.constant_iv.0 (fille
 -- 7 to 12, for a sample of n bytes.
 unfoldable pub auxiliary_rows : Parameters → List ℕ → ℕ → List Row
 auxiliary_rows p aux n = row 7 (ltb longest n) ∷ row 8 (bad_size p aux) ∷ map_rows p.code (map_read p aux) n
+
+-- The answer of a reading as a number, a map and an IV; a refusal has those of an empty unprotected track.
+abbrev pub as_auxiliary_read : Result Auxiliary Refusal → AuxiliaryRead
+as_auxiliary_read (Ok a) = record { answer = 0; map = a.map; iv = a.iv }
+as_auxiliary_read (Err r) = record { answer = refusal_number r; map = empty_map; iv = record { 0 = zeros } }
 
 -- What a table and the data make: on a refusal map and IV are those of an empty unprotected track.
 unfoldable pub handed_out : ℕ → Parameters → List ℕ → AuxiliaryRead
@@ -135,20 +162,20 @@ two_entries = span 1 8 ++ (0 ∷ 2 ∷ 0 ∷ 5 ∷ 0 ∷ 0 ∷ 0 ∷ 32 ∷ 0x01
 
 -- So many entries, in 64 places of one clear byte each.
 abbrev of_one : ℕ → SubsampleMap
-of_one count = record { clear = replicate limit 1; protected = replicate limit 0; count = count }
+of_one count = record { entries = replicate limit (entry 1 0); count = count }
 
 pub examples : List Case
 examples =
     is (answer (auxiliary_rows of_eight two_entries (5 + 32 + 300 + 70000)) ∷ []) (0 ∷ [])
     -- The IV is filled out with zeros, though entries follow it; unused places of the map are zero.
     ∷ is (iv_read of_eight two_entries) (span 1 8 ++ replicate 8 0)
-    ∷ is (map_read of_eight two_entries).clear (5 ∷ 300 ∷ replicate 62 0)
-    ∷ is (map_read of_eight two_entries).protected (32 ∷ 70000 ∷ replicate 62 0)
+    ∷ is (map (λ (e : Entry). e.clear) (map_read of_eight two_entries).entries) (5 ∷ 300 ∷ replicate 62 0)
+    ∷ is (map (λ (e : Entry). e.protected) (map_read of_eight two_entries).entries) (32 ∷ 70000 ∷ replicate 62 0)
     ∷ is ((map_read of_eight two_entries).count ∷ []) (2 ∷ [])
     -- 64 entries, and one too many.
     ∷ is (answer (map_rows cenc (of_one 64) 64) ∷ []) (0 ∷ [])
     ∷ is (answer (map_rows cenc (of_one 65) 64) ∷ []) (9 ∷ []) ∷ []
 
 pub examples_hold : Hold examples
-unfolding examples all_made all_said answer auxiliary_rows bad_size map_rows map_read entry_count iv_read some sum number filled same
+unfolding examples all_made all_said answer auxiliary_rows bad_size map_rows map_read entry_count places iv_read some sum number filled same
 examples_hold = refl

@@ -1,19 +1,23 @@
-// A sample's auxiliary data: the map of its subsample entries, and the numbers that reading answers; definitions and theorems
+// A sample's auxiliary data: the map of its subsample entries; definitions and theorems
 // (document 01, "A sample's auxiliary data").
 #![tactic(auto)]
 
-pub mod refusal;
-
-ghost use Rattle.std.specs.Prelude.{◌≡◌};
+ghost use Rattle.std.specs.Prelude.{◌≡◌, length, min, take};
 ghost use Rattle.subsample_spec.specs.Auxiliary as spec;
 
 use track_spec::StartVector;
 
-// The entries of a sample: clear and protected lengths, and how many are used; unused places are zero.
+// A subsample entry: clear bytes, then protected bytes.
+#[derive(Clone, Copy)]
+pub struct Entry {
+    pub clear: u16,
+    pub protected: u32,
+}
+
+// The entries of a sample, and how many are used; unused places are 0 and 0.
 #[derive(Clone, Copy)]
 pub struct SubsampleMap {
-    pub clear: [u16; SubsampleMap::LIMIT],
-    pub protected: [u32; SubsampleMap::LIMIT],
+    pub entries: [Entry; SubsampleMap::LIMIT],
     pub count: usize,
 }
 
@@ -27,33 +31,32 @@ impl SubsampleMap {
     // In cbc1 a protected length is a multiple of this.
     pub const BLOCK: u32 = 16;
 
-    // The map of the first `count` entries of lists of lengths.
-    pub fn new(
-        clear: [u16; SubsampleMap::LIMIT],
-        protected: [u32; SubsampleMap::LIMIT],
-        count: usize,
-    ) -> SubsampleMap
-        ensures { result ≡ record { clear = clear; protected = protected; count = count } }
-    {
-        SubsampleMap {
-            clear,
-            protected,
-            count,
-        }
-    }
-
     // The map of no entries.
     pub fn empty() -> SubsampleMap
         ensures { result ≡ spec.empty_map }
     {
-        SubsampleMap::new([0; SubsampleMap::LIMIT], [0; SubsampleMap::LIMIT], 0)
+        let none = Entry {
+            clear: 0,
+            protected: 0,
+        };
+        SubsampleMap {
+            entries: [none; SubsampleMap::LIMIT],
+            count: 0,
+        }
+    }
+
+    // The entries used; of a count past the places, all.
+    pub fn used(&self) -> &[Entry]
+        ensures first { result.now ≡ take self.now.count self.now.entries }
+        ensures size { length result.now ≡ min self.now.count spec.limit }
+    {
+        &self.entries[..self.count.min(SubsampleMap::LIMIT)]
     }
 }
 
-// What reading auxiliary data answers.
+// What auxiliary data holds: the map of the entries, and the start vector.
 #[derive(Clone, Copy)]
-pub struct AuxiliaryRead {
-    pub answer: u8,
+pub struct Auxiliary {
     pub map: SubsampleMap,
     pub iv: StartVector,
 }

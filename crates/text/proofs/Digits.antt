@@ -5,62 +5,98 @@ use mathlib.Core.Path.{◌≡◌, refl, sym, ap, ◌∙◌}
 use Prim.Native.Nat.{ℕ, zero, suc, ◌+◌, ◌-◌, ◌*◌, ◌/◌, ◌%◌, ◌≤◌, ◌<◌}
 use native.Mathlib.Numerals.{add-one}
 use native.Mathlib.Omega.{arith}
-use lib.Dec.{ltb}
+use lib.Dec.{ltb, leb}
 use lib.ListN.{length, get_or, drop}
 use lib.Seq.{drop-cons}
-use borrow.Author.Tests.{lt-ltb, le-ltb, le-leb, lt-leb, eq-eqb, ne_eqb, ltb-true, ltb-false}
+use borrow.Author.Tests.{lt-ltb, le-ltb, le-leb, lt-leb, eq-eqb, ne_eqb, ltb-true, ltb-false, leb-true}
 use Rattle.octets.specs.Bytes.{list_of}
 use Rattle.octets.proofs.Bytes.{get_d_list_of}
 use Rattle.octets.proofs.Tests.{&&_left, &&_right}
-use Rattle.text.specs.Text.{digit, value, digits_below, decimal, decimal_from, of_digits, number, none, some}
+use Rattle.std.proofs.Common.{Option, Some, None}
+use Rattle.std.specs.Option.{unwrap_or, is_some}
+use Rattle.std.specs.List.{list_all}
+use Rattle.text.specs.Text.{digit, value, worth, below, digits_below, decimal, decimal_from, of_digits, number}
 
 -- ---- The value of a digit.
 
 module _ (c : ℕ) where
-  pub value-decimal : 48 ≤ c → c ≤ 57 → value c ≡ c - 48
+  pub value-decimal : 48 ≤ c → c ≤ 57 → value c ≡ Some (c - 48)
   unfolding value
   value-decimal l h = rw (le-leb 48 c l, le-leb c 57 h)
 
-  pub value_letter : 97 ≤ c → c ≤ 102 → value c ≡ c - 87
+  pub value_letter : 97 ≤ c → c ≤ 102 → value c ≡ Some (c - 87)
   unfolding value
   value_letter l h = rw (le-leb 48 c (omega arith), lt-leb c 57 (omega arith), le-leb 97 c l, le-leb c 102 h)
 
-  pub value_before : c < 48 → value c ≡ 16
+  pub value_before : c < 48 → value c ≡ None
   unfolding value
   value_before h = rw (lt-leb 48 c h, lt-leb 97 c (omega arith))
 
-  pub value_between : 57 < c → c < 97 → value c ≡ 16
+  pub value_between : 57 < c → c < 97 → value c ≡ None
   unfolding value
   value_between l h = rw (le-leb 48 c (omega arith), lt-leb c 57 l, lt-leb 97 c h)
 
-  pub value-behind : 102 < c → value c ≡ 16
+  pub value-behind : 102 < c → value c ≡ None
   unfolding value
   value-behind l = rw (le-leb 48 c (omega arith), lt-leb c 57 (omega arith), le-leb 97 c (omega arith), lt-leb c 102 l)
 
 -- ---- Digits below a number.
 
-pub below_at : (n : ℕ) (word : List ℕ) → digits_below n word ≡ true → (i : ℕ) → i < length word → value (get_or word i 0) < n
+-- every value is below 16
+some_small : (c : ℕ) → is_some (value c) ≡ below 16 (value c)
+unfolding value below
+some_small c = go (leb 48 c && leb c 57) refl (leb 97 c && leb c 102) refl
+  where
+    go : (s : Bool) → leb 48 c && leb c 57 ≡ s → (t : Bool) → leb 97 c && leb c 102 ≡ t
+        → is_some (cond s (Some (c - 48)) (cond t (Some (c - 87)) None)) ≡ below 16 (cond s (Some (c - 48)) (cond t (Some (c - 87)) None))
+    go true e t f = sym (lt-ltb (c - 48) 16 (omega (arith, leb-true c 57 (&&_right (leb 48 c) (leb c 57) e))))
+    go false e true f = sym (lt-ltb (c - 87) 16 (omega (arith, leb-true c 102 (&&_right (leb 97 c) (leb c 102) f))))
+    go false e false f = refl
+
+pub all-digits : (word : List ℕ) → list_all (λ c. is_some (value c)) word ≡ digits_below 16 word
+unfolding digits_below
+all-digits [] = refl
+all-digits (c ∷ cs) = rw (some_small c, all-digits cs)
+
+pub worth_below : (n : ℕ) (o : Option ℕ) → below n o ≡ true → unwrap_or o 0 < n
+unfolding below
+worth_below n (Some v) h = ltb-true v n h
+worth_below n None h = absurd (cc)
+
+pub below_at : (n : ℕ) (word : List ℕ) → digits_below n word ≡ true → (i : ℕ) → i < length word → below n (value (get_or word i 0)) ≡ true
 unfolding digits_below
 below_at n [] h i l = elim l [ ]
-below_at n (c ∷ cs) h zero l = ltb-true (value c) n (&&_left (ltb (value c) n) (digits_below n cs) h)
-below_at n (c ∷ cs) h (suc i) l = below_at n cs (&&_right (ltb (value c) n) (digits_below n cs) h) i (omega arith)
+below_at n (c ∷ cs) h zero l = &&_left (below n (value c)) (digits_below n cs) h
+below_at n (c ∷ cs) h (suc i) l = below_at n cs (&&_right (below n (value c)) (digits_below n cs) h) i (omega arith)
 
 -- a byte that is no such digit, wherever it stands
-pub below_not : (n : ℕ) (word : List ℕ) (i : ℕ) → i < length word → n ≤ value (get_or word i 0) → digits_below n word ≡ false
+pub below_not : (n : ℕ) (word : List ℕ) (i : ℕ) → i < length word → below n (value (get_or word i 0)) ≡ false → digits_below n word ≡ false
 unfolding digits_below
 below_not n [] i l h = elim l [ ]
-below_not n (c ∷ cs) zero l h = rw (le-ltb (value c) n h)
-below_not n (c ∷ cs) (suc i) l h = behind (ltb (value c) n) (below_not n cs i (omega arith) h)
+below_not n (c ∷ cs) zero l h = rw h
+below_not n (c ∷ cs) (suc i) l h = behind (below n (value c)) (below_not n cs i (omega arith) h)
   where
     behind : (a : Bool) {b : Bool} → b ≡ false → a && b ≡ false
     behind true e = e
     behind false e = refl
 
 -- all digits, one by one
-pub below_all : (n : ℕ) (word : List ℕ) → ((i : ℕ) → i < length word → value (get_or word i 0) < n) → digits_below n word ≡ true
+pub below_all : (n : ℕ) (word : List ℕ) → ((i : ℕ) → i < length word → below n (value (get_or word i 0)) ≡ true) → digits_below n word ≡ true
 unfolding digits_below
 below_all n [] h = refl
-below_all n (c ∷ cs) h = rw (lt-ltb (value c) n (h 0 (omega arith))) (below_all n cs (λ i l. h (suc i) (omega arith)))
+below_all n (c ∷ cs) h = rw (h 0 (omega arith)) (below_all n cs (λ i l. h (suc i) (omega arith)))
+
+pub no_value : (n : ℕ) (o : Option ℕ) → o ≡ None → below n o ≡ false
+unfolding below
+no_value n o e = rw e
+
+pub some_below : (n : ℕ) (o : Option ℕ) (v : ℕ) → o ≡ Some v → v < n → below n o ≡ true
+unfolding below
+some_below n o v e l = rw e (lt-ltb v n l)
+
+pub some_not : (n : ℕ) (o : Option ℕ) (v : ℕ) → o ≡ Some v → n ≤ v → below n o ≡ false
+unfolding below
+some_not n o v e l = rw e (le-ltb v n l)
 
 -- ---- Numbers below 1000, written.
 
@@ -90,36 +126,36 @@ decimal-length n = at_most 3 (ltb n 10) _ _ (omega arith) (at_most 3 (ltb n 100)
 pub from_grows : (n : ℕ) (word : List ℕ) → n ≤ decimal_from n word
 unfolding decimal_from
 from_grows n [] = omega arith
-from_grows n (c ∷ cs) = omega (arith, from_grows (n * 10 + value c) cs)
+from_grows n (c ∷ cs) = omega (arith, from_grows (n * 10 + worth c) cs)
 
 -- the first digit of those that are left
 pub from_next : (n : ℕ) (word : List ℕ) (i : ℕ) → i < length word
-    → decimal_from n (drop i word) ≡ decimal_from (n * 10 + value (get_or word i 0)) (drop (i + 1) word)
+    → decimal_from n (drop i word) ≡ decimal_from (n * 10 + worth (get_or word i 0)) (drop (i + 1) word)
 unfolding decimal_from
 from_next n word i l = rw (add-one, drop-cons word i 0 l)
 
 module _ (word : List ℕ) (largest : ℕ) where
-  pub digits_good : digits_below 10 word ≡ true → decimal_from 0 word ≤ largest → of_digits word largest ≡ some (decimal_from 0 word)
+  pub digits_good : digits_below 10 word ≡ true → decimal_from 0 word ≤ largest → of_digits word largest ≡ Some (decimal_from 0 word)
   unfolding of_digits
   digits_good h l = rw (h, le-leb (decimal_from 0 word) largest l)
 
-  pub digits_not : digits_below 10 word ≡ false → of_digits word largest ≡ none
+  pub digits_not : digits_below 10 word ≡ false → of_digits word largest ≡ None
   unfolding of_digits
   digits_not h = rw h
 
-  pub digits_above : largest < decimal_from 0 word → of_digits word largest ≡ none
+  pub digits_above : largest < decimal_from 0 word → of_digits word largest ≡ None
   unfolding of_digits
   digits_above l = rw (lt-leb (decimal_from 0 word) largest l) (neither (digits_below 10 word))
     where
-      neither : (a : Bool) → cond (a && false) (some (decimal_from 0 word)) none ≡ none
+      neither : (a : Bool) → cond (a && false) (Some (decimal_from 0 word)) None ≡ None
       neither true = refl
       neither false = refl
 
-  pub number_empty : length word ≡ 0 → number word largest ≡ none
+  pub number_empty : length word ≡ 0 → number word largest ≡ None
   unfolding number
   number_empty e = rw (eq-eqb (length word) 0 e)
 
-  pub number-zeros : 1 < length word → get_or word 0 0 ≡ 48 → number word largest ≡ none
+  pub number-zeros : 1 < length word → get_or word 0 0 ≡ 48 → number word largest ≡ None
   unfolding number
   number-zeros l e = rw (ne_eqb (length word) 0 (λ n. omega arith), lt-ltb 1 (length word) l, eq-eqb (get_or word 0 0) 48 e)
 
@@ -133,32 +169,32 @@ module _ (word : List ℕ) (largest : ℕ) where
 
 -- ---- What is written reads back.
 
-values : list_of 16 (λ n. value (digit n)) ≡ list_of 16 (λ n. n)
+values : list_of 16 (λ n. value (digit n)) ≡ list_of 16 (λ n. Some n)
 unfolding value
 values = refl
 
-pub value-digit : (n : ℕ) → n < 16 → value (digit n) ≡ n
+pub value-digit : (n : ℕ) → n < 16 → value (digit n) ≡ Some n
 value-digit n l =
-    sym (get_d_list_of 16 (λ n. value (digit n)) 0 n l) ∙ ap (λ l. get_or l n 0) values ∙ get_d_list_of 16 (λ n. n) 0 n l
+    sym (get_d_list_of 16 (λ n. value (digit n)) None n l) ∙ ap (λ l. get_or l n None) values ∙ get_d_list_of 16 (λ n. Some n) None n l
 
 first_digit : (k : ℕ) → 0 < k → k < 16 → digit k ≡ 48 → ⊥
 unfolding value
-first_digit k l h e = omega (arith, value-digit k h, ap value e)
+first_digit k l h e = omega (arith, ap (λ o. unwrap_or o 0) (value-digit k h), ap worth e)
 
 digits_are : (word : List ℕ) (n largest : ℕ) → digits_below 10 word ≡ true → decimal_from 0 word ≡ n → n ≤ largest
-    → of_digits word largest ≡ some n
+    → of_digits word largest ≡ Some n
 digits_are word n largest h e l = rw (← e) (digits_good word largest h (omega (arith, e)))
 
 module _ (n largest : ℕ) (h : n ≤ largest) where
-  one_back : n < 10 → number (decimal n) largest ≡ some n
-  unfolding digits_below decimal_from
+  one_back : n < 10 → number (decimal n) largest ≡ Some n
+  unfolding digits_below decimal_from below
   one_back l =
       let e = value-digit n (omega arith) in
       rw (decimal_one n l, number_one (digit n ∷ []) largest refl)
       (digits_are (digit n ∷ []) n largest (rw (e, lt-ltb n 10 l)) (rw e (omega arith)) h)
 
-  two_back : 10 ≤ n → n < 100 → number (decimal n) largest ≡ some n
-  unfolding digits_below decimal_from
+  two_back : 10 ≤ n → n < 100 → number (decimal n) largest ≡ Some n
+  unfolding digits_below decimal_from below
   two_back l m =
       let e = value-digit (n / 10) (omega arith) in
       let f = value-digit (n % 10) (omega arith) in
@@ -168,8 +204,8 @@ module _ (n largest : ℕ) (h : n ≤ largest) where
       (rw (e, f, lt-ltb (n / 10) 10 (omega arith), lt-ltb (n % 10) 10 (omega arith)))
       (rw (e, f) (omega arith)) h)
 
-  three_back : 100 ≤ n → n < 1000 → number (decimal n) largest ≡ some n
-  unfolding digits_below decimal_from
+  three_back : 100 ≤ n → n < 1000 → number (decimal n) largest ≡ Some n
+  unfolding digits_below decimal_from below
   three_back l m =
       let e = value-digit (n / 100) (omega arith) in
       let f = value-digit (n / 10 % 10) (omega arith) in
@@ -180,10 +216,10 @@ module _ (n largest : ℕ) (h : n ≤ largest) where
       (rw (e, f, g, lt-ltb (n / 100) 10 (omega arith), lt-ltb (n / 10 % 10) 10 (omega arith), lt-ltb (n % 10) 10 (omega arith)))
       (rw (e, f, g) (omega arith)) h)
 
-pub number_read_back : (n largest : ℕ) → n < 1000 → n ≤ largest → number (decimal n) largest ≡ some n
+pub number_read_back : (n largest : ℕ) → n < 1000 → n ≤ largest → number (decimal n) largest ≡ Some n
 number_read_back n largest l h = go (ltb n 10) refl (ltb n 100) refl
   where
-    go : (s : Bool) → ltb n 10 ≡ s → (t : Bool) → ltb n 100 ≡ t → number (decimal n) largest ≡ some n
+    go : (s : Bool) → ltb n 10 ≡ s → (t : Bool) → ltb n 100 ≡ t → number (decimal n) largest ≡ Some n
     go true e t f = one_back n largest h (ltb-true n 10 e)
     go false e true f = two_back n largest h (ltb-false n 10 e) (ltb-true n 100 f)
     go false e false f = three_back n largest h (ltb-false n 100 f) l

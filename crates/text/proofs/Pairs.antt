@@ -2,19 +2,21 @@
 use mathlib.Core.Bool.{Bool, true, false, cond, not, ◌&&◌, ◌||◌}
 use mathlib.Core.List.{List, [], ◌∷◌, ◌++◌}
 use mathlib.Core.Logic.{◌⊎◌, inl, inr}
-use mathlib.Core.Path.{◌≡◌, refl, ap}
-use Prim.Native.Nat.{ℕ, zero, suc, ◌+◌, ◌*◌, ◌/◌, ◌%◌, ◌≤◌, ◌<◌}
+use mathlib.Core.Path.{◌≡◌, refl, ap, ◌∙◌}
+use Prim.Native.Nat.{ℕ, zero, suc, ◌+◌, ◌-◌, ◌*◌, ◌/◌, ◌%◌, ◌≤◌, ◌<◌}
+use native.Mathlib.Numerals.{add-one}
 use native.Mathlib.Omega.{arith}
 use lib.Dec.{eqb, leb}
 use lib.ListN.{length, get_or, take, drop, set, take-append-drop}
-use lib.Seq.{paste, paste-suc}
+use lib.Seq.{paste, paste-suc, drop-drop}
+use borrow.Rule.Slice.PartMut.{put_mid}
 use borrow.Author.Tests.{le-leb, lt-leb, eq-eqb, ne_eqb, lt-ltb, leb-true}
 use Rattle.octets.specs.Ascii.{ascii}
 use Rattle.octets.specs.Bytes.{same, placed}
-use Rattle.octets.proofs.Bytes.{same_equal}
+use Rattle.octets.proofs.Bytes.{same_equal, placed_fits}
 use Rattle.octets.proofs.Tests.{&&_left, &&_right, or_true_cases}
-use Rattle.text.specs.Text.{digit, value, digits_below, hex, hex_word, is_hex, is_bytes, unhex, bytes_of, end_of}
-use Rattle.text.proofs.Digits.{below_at, value-digit}
+use Rattle.text.specs.Text.{digit, value, worth, below, digits_below, hex, hex_word, is_hex, is_bytes, unhex, bytes_of, end_of}
+use Rattle.text.proofs.Digits.{below_at, worth_below, value-digit}
 
 -- ---- Written.
 
@@ -48,19 +50,25 @@ module _ (s : List ℕ) where
   unfolding hex_word
   word_some l = rw (ne_eqb (length s) 0 (λ e. omega arith))
 
+-- a byte more at the start of a string
+put_next : (out b : List ℕ) (k : ℕ) → k < length b → k < length out → set (paste out 0 b k) k (get_or b k 0) ≡ paste out 0 b (suc k)
+put_next out b k l room =
+    let z : k ≡ 0 + k = omega arith in
+    ap (λ (m : ℕ). set (paste out 0 b k) m (get_or b k 0)) z ∙ paste-suc out 0 b k 0 (omega arith) l
+
 -- two digits more
-pub paste_pair : (out s : List ℕ) (at i : ℕ) → i < length s → at + 2 * length s ≤ length out
-    → set (set (paste out at (hex s) (2 * i)) (at + 2 * i) (digit (get_or s i 0 / 16))) (at + 2 * i + 1) (digit (get_or s i 0 % 16))
-    ≡ paste out at (hex s) (2 * (i + 1))
-paste_pair out s at i l room =
+pub paste_pair : (out s : List ℕ) (i : ℕ) → i < length s → 2 * length s ≤ length out
+    → set (set (paste out 0 (hex s) (2 * i)) (2 * i) (digit (get_or s i 0 / 16))) (2 * i + 1) (digit (get_or s i 0 % 16))
+    ≡ paste out 0 (hex s) (2 * (i + 1))
+paste_pair out s i l room =
     let n = hex_length s in
     let j = 2 * i in
-    let e : at + j + 1 ≡ at + suc j = omega arith in
+    let e : j + 1 ≡ suc j = omega arith in
     let f : 2 * (i + 1) ≡ suc (suc j) = omega arith in
-    let first : set (paste out at (hex s) j) (at + j) (digit (get_or s i 0 / 16)) ≡ paste out at (hex s) (suc j) =
-    rw (← (hex_first s i j refl l)) (paste-suc out at (hex s) j 0 (omega (arith, n)) (omega (arith, n))) in
-    let second : set (paste out at (hex s) (suc j)) (at + suc j) (digit (get_or s i 0 % 16)) ≡ paste out at (hex s) (suc (suc j)) =
-    rw (← (hex_second s i (suc j) (omega arith) l)) (paste-suc out at (hex s) (suc j) 0 (omega (arith, n)) (omega (arith, n))) in
+    let first : set (paste out 0 (hex s) j) j (digit (get_or s i 0 / 16)) ≡ paste out 0 (hex s) (suc j) =
+    rw (← (hex_first s i j refl l)) (put_next out (hex s) j (omega (arith, n)) (omega (arith, n))) in
+    let second : set (paste out 0 (hex s) (suc j)) (suc j) (digit (get_or s i 0 % 16)) ≡ paste out 0 (hex s) (suc (suc j)) =
+    rw (← (hex_second s i (suc j) (omega arith) l)) (put_next out (hex s) (suc j) (omega (arith, n)) (omega (arith, n))) in
     rw (e, f, first) second
 
 -- ---- Read.
@@ -72,7 +80,7 @@ unhex-length (a ∷ []) = refl
 unhex-length (a ∷ b ∷ cs) = omega (arith, unhex-length cs)
 
 pub unhex_at : (word : List ℕ) (i j k : ℕ) → j ≡ 2 * i → k ≡ 2 * i + 1 → i < length word / 2
-    → get_or (unhex word) i 0 ≡ value (get_or word j 0) * 16 + value (get_or word k 0)
+    → get_or (unhex word) i 0 ≡ worth (get_or word j 0) * 16 + worth (get_or word k 0)
 unfolding unhex
 unhex_at (a ∷ b ∷ cs) zero j k e f l = rw (e, f)
 unhex_at (a ∷ b ∷ cs) (suc i) zero k e f l = omega arith
@@ -82,6 +90,13 @@ unhex_at (a ∷ b ∷ cs) (suc i) (suc (suc j)) (suc zero) e f l = omega arith
 unhex_at (a ∷ b ∷ cs) (suc i) (suc (suc j)) (suc (suc k)) e f l = unhex_at cs i j k (omega arith) (omega arith) (omega arith)
 unhex_at (a ∷ []) i j k e f l = omega arith
 unhex_at [] i j k e f l = omega arith
+
+-- a byte more
+pub unhex-next : (out word : List ℕ) (i : ℕ) → i < length word / 2 → length word / 2 ≤ length out
+    → set (paste out 0 (unhex word) i) i (worth (get_or word (2 * i) 0) * 16 + worth (get_or word (2 * i + 1) 0)) ≡ paste out 0 (unhex word) (i + 1)
+unhex-next out word i l room =
+    let n = unhex-length word in
+    rw (← (unhex_at word i (2 * i) (2 * i + 1) refl refl l), add-one) (put_next out (unhex word) i (omega (arith, n)) (omega (arith, n)))
 
 module _ (word : List ℕ) where
   pub bytes_dash : same word (ascii "-") ≡ true → is_bytes word ≡ true
@@ -105,17 +120,18 @@ module _ (word : List ℕ) where
   of_none e = rw e
 
 -- the digits of a byte string have values below 16
-pub pair_below : (word : List ℕ) → is_bytes word ≡ true → (i : ℕ) → 1 < length word → i < length word → value (get_or word i 0) < 16
+pub pair_below : (word : List ℕ) → is_bytes word ≡ true → (i : ℕ) → 1 < length word → i < length word → worth (get_or word i 0) < 16
 unfolding is_bytes is_hex
 pair_below word h i m l = go (or_true_cases (same word (ascii "-")) _ h)
   where
     go : (same word (ascii "-") ≡ true) ⊎ (not (eqb (length word) 0) && (digits_below 16 word && eqb (length word % 2) 0) ≡ true)
-        → value (get_or word i 0) < 16
+        → worth (get_or word i 0) < 16
     go (inl e) = omega (arith, ap length (same_equal word (ascii "-") e))
     go (inr e) =
-        below_at 16 word
+        worth_below 16 (value (get_or word i 0))
+        (below_at 16 word
         (&&_left (digits_below 16 word) (eqb (length word % 2) 0) (&&_right (not (eqb (length word) 0)) (is_hex word) e))
-        i l
+        i l)
 
 -- ---- Where they end.
 
@@ -135,6 +151,12 @@ module _ (s : List ℕ) (at : ℕ) (b : List ℕ) where
       go : (t : Bool) → leb (at + length b) (length s) ≡ t → cond t (at + length b) at ≤ length s
       go true e = leb-true (at + length b) (length s) e
       go false e = h
+
+-- the bytes from a place on are those that are put
+pub put_placed : (s : List ℕ) (at n : ℕ) (b : List ℕ) → n ≡ length b → at + n ≤ length s → put_mid at (at + n - at) s b ≡ placed s at b
+put_placed s at n b e h =
+    let k : at + n - at ≡ n = omega arith in
+    rw (k, placed_fits s at b (omega arith)) (ap (λ r. take at s ++ (b ++ r)) (drop-drop n at s ∙ ap (λ m. drop m s) (omega arith)))
 
 -- nothing is put, and ends where it starts
 pub placed-none : (s : List ℕ) (at : ℕ) → placed s at [] ≡ s
@@ -163,7 +185,7 @@ unhex_hex (b ∷ bs) h =
     rw (value-digit (b / 16) (omega (arith, h 0)), value-digit (b % 16) (omega arith), e, unhex_hex bs (λ i. h (suc i)))
 
 hex_digits : (s : List ℕ) → ((i : ℕ) → get_or s i 0 < 256) → digits_below 16 (hex s) ≡ true
-unfolding hex digits_below
+unfolding hex digits_below below
 hex_digits [] h = refl
 hex_digits (b ∷ bs) h =
     let l : b / 16 < 16 = omega (arith, h 0) in

@@ -1,94 +1,53 @@
--- Words, and where they start and end.
+-- The words of a line are its parts.
 use mathlib.Core.Bool.{Bool, true, false, cond}
 use mathlib.Core.List.{List, [], ◌∷◌}
-use mathlib.Core.Path.{◌≡◌, refl, sym, ap}
-use Prim.Native.Nat.{ℕ, zero, suc, ◌+◌, ◌-◌, ◌≤◌, ◌<◌}
-use native.Mathlib.Nat.{min-eq_left, min-eq_right}
-use native.Mathlib.Numerals.{add-one}
+use mathlib.Core.Path.{◌≡◌, refl, sym, ap, ◌∙◌}
+use Prim.Native.Nat.{ℕ, zero, suc, ◌+◌}
 use native.Mathlib.Omega.{arith}
-use lib.Dec.{eqb, leb}
-use lib.ListN.{length, get_or, take, drop, drop_of_length-le}
-use lib.Seq.{drop-cons, drop-drop}
-use borrow.Author.Tests.{eq-eqb, ne_eqb, leb-true, leb-false}
-use Rattle.text.specs.Text.{up_to, behind, from_word, word_at}
+use lib.Dec.{eqb}
+use lib.ListN.{length, get_or, drop}
+use denote.Ref.{Bor}
+use Rattle.std.proofs.Common.{Option, Some, None}
+use Rattle.std.specs.Option.{option_map, unwrap_or}
+use Rattle.std.specs.List.{slice_split, onto_first, slice_get}
+use Rattle.std.proofs.lemmas.Option.{unwrap_or-slice_get}
+use Rattle.text.specs.Text.{up_to, behind, from_word, word}
 
-pub up_to_take : (b : ℕ) (s : List ℕ) → take (length (up_to b s)) s ≡ up_to b s
-unfolding up_to
-up_to_take b [] = refl
-up_to_take b (x ∷ xs) = go (eqb x b) (up_to_take b xs)
+onto_here : (x : ℕ) (parts : List (List ℕ)) → get_or (onto_first x parts) 0 [] ≡ x ∷ get_or parts 0 []
+onto_here x [] = refl
+onto_here x (p ∷ ps) = refl
+
+onto_later : (x n : ℕ) (parts : List (List ℕ)) → get_or (onto_first x parts) (suc n) [] ≡ get_or parts (suc n) []
+onto_later x n [] = refl
+onto_later x n (p ∷ ps) = refl
+
+no_word : (b n : ℕ) → word b n [] ≡ []
+unfolding word from_word behind up_to
+no_word b zero = refl
+no_word b (suc n) = no_word b n
+
+pub word-part : (b : ℕ) (line : List ℕ) (n : ℕ) → get_or (slice_split (λ x. eqb x b) line) n [] ≡ word b n line
+unfolding word from_word behind up_to
+word-part b [] zero = refl
+word-part b [] (suc n) = sym (no_word b n)
+word-part b (x ∷ xs) zero = go (eqb x b) (word-part b xs 0)
   where
-    go : (t : Bool) → take (length (up_to b xs)) xs ≡ up_to b xs
-        → take (length (cond t [] (x ∷ up_to b xs))) (x ∷ xs) ≡ cond t [] (x ∷ up_to b xs)
-    go true e = refl
-    go false e = ap (λ (l : List ℕ). x ∷ l) e
-
--- the byte at a place is b, or the word goes on behind it, or the line has ended
-module _ (b : ℕ) (s : List ℕ) (at : ℕ) where
-  pub up_to_here : at < length s → get_or s at 0 ≡ b → length (up_to b (drop at s)) ≡ 0
-  unfolding up_to
-  up_to_here l e = rw (drop-cons s at 0 l, eq-eqb (get_or s at 0) b e)
-
-  pub up_to_next : at < length s → (get_or s at 0 ≡ b → ⊥) → length (up_to b (drop at s)) ≡ length (up_to b (drop (at + 1) s)) + 1
-  unfolding up_to
-  up_to_next l e = rw (drop-cons s at 0 l, ne_eqb (get_or s at 0) b e, add-one at) (omega arith)
-
-  pub up_to_end : length s ≤ at → length (up_to b (drop at s)) ≡ 0
-  unfolding up_to
-  up_to_end l = rw (drop_of_length-le s l)
-
--- ---- From word to word.
-
-module _ (b : ℕ) (line : List ℕ) (at : ℕ) where
-  pub word_inside : at ≤ length line → word_at b at line ≡ record { start = at; end = at + length (up_to b (drop at line)) }
-  unfolding word_at
-  word_inside l = rw (min-eq_left l)
-
-  pub word_past : length line < at → word_at b at line ≡ record { start = length line; end = length line }
-  unfolding word_at
-  word_past l =
-      let h : length line ≤ at = omega arith in
-      let e : length line + 0 ≡ length line = omega arith in
-      rw (min-eq_right h, up_to_end b line at h, e)
-
-  -- the bytes of a word
-  pub word_bytes : take ((word_at b at line).end - (word_at b at line).start) (drop (word_at b at line).start line) ≡ up_to b (drop at line)
-  unfolding up_to
-  word_bytes = go (leb at (length line)) refl
-    where
-      go : (t : Bool) → leb at (length line) ≡ t
-          → take ((word_at b at line).end - (word_at b at line).start) (drop (word_at b at line).start line) ≡ up_to b (drop at line)
-      go true h =
-          let n = length (up_to b (drop at line)) in
-          let e : at + n - at ≡ n = omega arith in
-          rw (word_inside (leb-true at (length line) h), e) (up_to_take b (drop at line))
-      go false h =
-          let l = leb-false at (length line) h in
-          let none : drop at line ≡ [] = drop_of_length-le line {i = at} (omega arith) in
-          let all : drop (length line) line ≡ [] = drop_of_length-le line {i = length line} (omega arith) in
-          let e : length line - length line ≡ 0 = omega arith in
-          rw (word_past l, none, all, e)
-
-  -- behind a word, one past its end
-  pub behind-word : drop ((word_at b at line).end + 1) line ≡ behind b (drop at line)
-  unfolding behind up_to
-  behind-word = go (leb at (length line)) refl
-    where
-      go : (t : Bool) → leb at (length line) ≡ t → drop ((word_at b at line).end + 1) line ≡ drop (length (up_to b (drop at line)) + 1) (drop at line)
-      go true h =
-          let l = leb-true at (length line) h in
-          let n = length (up_to b (drop at line)) in
-          let e : at + n + 1 ≡ at + (n + 1) = omega arith in
-          rw (word_inside l, e) (sym (drop-drop (n + 1) at line))
-      go false h =
-          let l = leb-false at (length line) h in
-          let none : drop at line ≡ [] = drop_of_length-le line {i = at} (omega arith) in
-          let past : length line ≤ length line + 1 = omega arith in
-          rw (word_past l, none) (drop_of_length-le line past)
-
-pub from_word-next : (b n : ℕ) (line : List ℕ) → from_word b (n + 1) line ≡ behind b (from_word b n line)
-unfolding from_word
-from_word-next b n line = rw add-one (go n line)
+    go : (t : Bool) → get_or (slice_split (λ x. eqb x b) xs) 0 [] ≡ up_to b xs
+        → get_or (cond t ([] ∷ slice_split (λ x. eqb x b) xs) (onto_first x (slice_split (λ x. eqb x b) xs))) 0 [] ≡ cond t [] (x ∷ up_to b xs)
+    go true h = refl
+    go false h = rw (onto_here x (slice_split (λ x. eqb x b) xs), h)
+word-part b (x ∷ xs) (suc n) = go (eqb x b) (word-part b xs n) (word-part b xs (suc n))
   where
-    go : (n : ℕ) (line : List ℕ) → from_word b (suc n) line ≡ behind b (from_word b n line)
-    go zero line = refl
-    go (suc n) line = go n (behind b line)
+    go : (t : Bool) → get_or (slice_split (λ x. eqb x b) xs) n [] ≡ word b n xs → get_or (slice_split (λ x. eqb x b) xs) (suc n) [] ≡ word b (suc n) xs
+        → get_or (cond t ([] ∷ slice_split (λ x. eqb x b) xs) (onto_first x (slice_split (λ x. eqb x b) xs))) (suc n) []
+        ≡ word b n (drop (length (cond t [] (x ∷ up_to b xs)) + 1) (x ∷ xs))
+    go true h i = h
+    go false h i =
+        let e : suc (length (up_to b xs)) + 1 ≡ suc (length (up_to b xs) + 1) = omega arith in
+        rw (onto_later x n (slice_split (λ x. eqb x b) xs), e) i
+
+-- a part by its place, empty where there are not so many
+pub part_or_none : (parts : List (List ℕ)) (n : ℕ) (r : Option (Bor (List ℕ))) (d : Bor (List ℕ)) → option_map (λ x. x.now) r ≡ slice_get parts n
+    → d.now ≡ [] → (unwrap_or r d).now ≡ get_or parts n []
+part_or_none parts n (Some p) d e z = ap (λ o. unwrap_or o []) e ∙ unwrap_or-slice_get parts n []
+part_or_none parts n None d e z = z ∙ ap (λ o. unwrap_or o []) e ∙ unwrap_or-slice_get parts n []

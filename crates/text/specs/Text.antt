@@ -1,9 +1,8 @@
 -- Document 01, "The sheet program", and README.md, "The programs": numbers and byte strings as text, and the words of a line.
-use Rattle.std.specs.Prelude.{Bool, true, false, cond, not, ◌&&◌, ◌||◌, List, [], ◌∷◌, ℕ, zero, suc, ◌+◌, ◌-◌, ◌*◌, ◌/◌, ◌%◌, min, eqb, leb, ltb, length, get_or, drop}
+use Rattle.std.specs.Prelude.{Bool, true, false, cond, not, ◌&&◌, ◌||◌, Option, Some, None, List, [], ◌∷◌, ℕ, zero, suc, ◌+◌, ◌-◌, ◌*◌, ◌/◌, ◌%◌, eqb, leb, ltb, length, get_or, drop}
+use Rattle.std.specs.Option.{unwrap_or}
 use Rattle.octets.specs.Ascii.{ascii}
 use Rattle.octets.specs.Bytes.{same}
-use Rattle.text.specs.declared.Number.{Number}
-use Rattle.text.specs.declared.Span.{Span}
 
 -- ---- Digits.
 
@@ -11,14 +10,23 @@ use Rattle.text.specs.declared.Span.{Span}
 abbrev pub digit : ℕ → ℕ
 digit n = get_or (ascii "0123456789abcdef") n 0
 
--- The value of a digit, 16 for any other byte.
-unfoldable pub value : ℕ → ℕ
-value c = cond (leb 48 c && leb c 57) (c - 48) (cond (leb 97 c && leb c 102) (c - 87) 16)
+-- The value of a digit, none for any other byte.
+unfoldable pub value : ℕ → Option ℕ
+value c = cond (leb 48 c && leb c 57) (Some (c - 48)) (cond (leb 97 c && leb c 102) (Some (c - 87)) None)
+
+-- The value of what has to be a digit.
+abbrev pub worth : ℕ → ℕ
+worth c = unwrap_or (value c) 0
+
+-- Whether there is a value, and it is below n.
+unfoldable pub below : ℕ → Option ℕ → Bool
+below n (Some v) = ltb v n
+below n None = false
 
 -- Whether all bytes are digits with values below n.
 unfoldable pub digits_below : ℕ → List ℕ → Bool
 digits_below n [] = true
-digits_below n (c ∷ cs) = ltb (value c) n && digits_below n cs
+digits_below n (c ∷ cs) = below n (value c) && digits_below n cs
 
 -- ---- Numbers.
 
@@ -32,23 +40,17 @@ decimal n =
 -- The number that stands there once decimal digits are written behind a number.
 unfoldable pub decimal_from : ℕ → List ℕ → ℕ
 decimal_from n [] = n
-decimal_from n (c ∷ cs) = decimal_from (n * 10 + value c) cs
-
-abbrev pub none : Number
-none = record { good = false; value = 0 }
-
-abbrev pub some : ℕ → Number
-some n = record { good = true; value = n }
+decimal_from n (c ∷ cs) = decimal_from (n * 10 + worth c) cs
 
 -- The number that digits are, if they are decimal and it is not above the largest.
-unfoldable pub of_digits : List ℕ → ℕ → Number
+unfoldable pub of_digits : List ℕ → ℕ → Option ℕ
 of_digits word largest =
-    cond (digits_below 10 word && leb (decimal_from 0 word) largest) (some (decimal_from 0 word)) none
+    cond (digits_below 10 word && leb (decimal_from 0 word) largest) (Some (decimal_from 0 word)) None
 
 -- The number that a word is: digits without leading zeros.
-unfoldable pub number : List ℕ → ℕ → Number
+unfoldable pub number : List ℕ → ℕ → Option ℕ
 number word largest =
-    cond (eqb (length word) 0 || (ltb 1 (length word) && eqb (get_or word 0 0) 48)) none (of_digits word largest)
+    cond (eqb (length word) 0 || (ltb 1 (length word) && eqb (get_or word 0 0) 48)) None (of_digits word largest)
 
 -- ---- Byte strings.
 
@@ -72,7 +74,7 @@ is_bytes word = same word (ascii "-") || (not (eqb (length word) 0) && is_hex wo
 unfoldable pub unhex : List ℕ → List ℕ
 unhex [] = []
 unhex (a ∷ []) = []
-unhex (a ∷ b ∷ cs) = (value a * 16 + value b) ∷ unhex cs
+unhex (a ∷ b ∷ cs) = (worth a * 16 + worth b) ∷ unhex cs
 
 -- The bytes that a word is, none where it is no byte string.
 unfoldable pub bytes_of : List ℕ → List ℕ
@@ -101,11 +103,3 @@ from_word b (suc n) line = from_word b n (behind b line)
 -- A word of a line, its words parted by the byte b; empty where there are not so many.
 unfoldable pub word : ℕ → ℕ → List ℕ → List ℕ
 word b n line = up_to b (from_word b n line)
-
--- The word from a place on; the end of the line where the place is past it.
-unfoldable pub word_at : ℕ → ℕ → List ℕ → Span
-word_at b at line =
-    record {
-      start = min at (length line);
-      end = min at (length line) + length (up_to b (drop at line));
-    }

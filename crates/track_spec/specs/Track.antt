@@ -1,14 +1,26 @@
 -- Document 01, "The track box", and document 02, Asks 2 and 8: the four scheme codes, the parameters that are allowed, the box read
 -- and written.
 use Rattle.std.specs.Prelude.{Bool, cond, not, ◌&&◌, ◌||◌, List, [], ◌∷◌, ◌++◌, map, ◌≡◌, refl, ℕ, ◌+◌, ◌*◌, ◌/◌, ◌%◌, eqb, leb, ltb, length, get_or, drop, replicate}
+use Rattle.std.specs.declared.result.Result.{Result}
+use Rattle.std.specs.declared.result.Result.TheVariants.{Ok, Err}
+use Rattle.refusals.specs.declared.Refusal.{Refusal}
+use Rattle.refusals.specs.Refusals.{refusal_number}
 use Rattle.octets.specs.Answers.{Row, row, answer}
 use Rattle.octets.specs.Ascii.{ascii}
 use Rattle.octets.specs.Bytes.{same, number, digits, filled}
 use Rattle.octets.specs.Cases.{Case, is, all_made, all_said, Hold, span}
 use Rattle.boxes.specs.Box as frame
 use Rattle.track_spec.specs.declared.Parameters.{Parameters}
-use Rattle.track_spec.specs.declared.BoxRead.{BoxRead}
-use Rattle.track_spec.specs.declared.BoxWritten.{BoxWritten}
+
+-- What reading a box answers.
+pub record BoxRead : Type 0 where
+  pub answer : ℕ
+  pub parameters : Parameters
+
+-- What writing a box answers: the number of bytes written, 0 if refused.
+pub record BoxWritten : Type 0 where
+  pub answer : ℕ
+  pub length : ℕ
 
 -- The scheme codes and the box type.
 abbrev pub cenc : List ℕ
@@ -147,6 +159,11 @@ unprotected =
       constant_iv = record { 0 = zeros };
     }
 
+-- The answer of a reading as a number and parameters; a refusal has those of an empty unprotected track.
+abbrev pub as_box_read : Result Parameters Refusal → BoxRead
+as_box_read (Ok p) = record { answer = 0; parameters = p }
+as_box_read (Err r) = record { answer = refusal_number r; parameters = unprotected }
+
 unfoldable pub read_box : List ℕ → List ℕ → BoxRead
 read_box code box =
     record {
@@ -177,6 +194,11 @@ parameter_rows p =
 -- The output's length is room.
 unfoldable pub write_rows : Parameters → ℕ → List Row
 write_rows p room = parameter_rows p ++ (row 17 (ltb room (box_length p.protected p.iv_size)) ∷ [])
+
+-- The answer of a writing as a number and a length; a refusal has none.
+abbrev pub as_box_written : Result ℕ Refusal → BoxWritten
+as_box_written (Ok n) = record { answer = 0; length = n }
+as_box_written (Err r) = record { answer = refusal_number r; length = 0 }
 
 unfoldable pub write_box : Parameters → ℕ → BoxWritten
 write_box p room =

@@ -1,8 +1,5 @@
-// The track encryption box `tenc`: what it holds, and the numbers that reading and writing answer; definitions and theorems
-// (document 01, "The track box").
+// The track encryption box `tenc`: what it holds; definitions and theorems (document 01, "The track box").
 #![tactic(auto)]
-
-pub mod refusal;
 
 ghost use Rattle.std.specs.Prelude.{◌≡◌};
 ghost use Rattle.track_spec.specs.Track as spec;
@@ -17,34 +14,10 @@ pub struct StartVector(pub [u8; StartVector::SIZE]);
 
 impl Kid {
     pub const SIZE: usize = 16;
-
-    pub fn new(bytes: [u8; Kid::SIZE]) -> Kid
-        ensures { result.0 ≡ bytes }
-    {
-        Kid(bytes)
-    }
-
-    pub fn bytes(self) -> [u8; Kid::SIZE]
-        ensures { result ≡ self.0 }
-    {
-        self.0
-    }
 }
 
 impl StartVector {
     pub const SIZE: usize = 16;
-
-    pub fn new(bytes: [u8; StartVector::SIZE]) -> StartVector
-        ensures { result.0 ≡ bytes }
-    {
-        StartVector(bytes)
-    }
-
-    pub fn bytes(self) -> [u8; StartVector::SIZE]
-        ensures { result ≡ self.0 }
-    {
-        self.0
-    }
 }
 
 // What a track's box holds, the scheme's code with it.
@@ -72,7 +45,7 @@ impl Parameters {
     // The largest crypt count and the largest skip count.
     pub const MOST_BLOCKS: u8 = 15;
 
-    // Those of an empty unprotected cenc track in version 0, which a refusal hands out.
+    // Those of an empty unprotected cenc track in version 0, which stand where nothing was read.
     pub fn unprotected() -> Parameters
         ensures { result ≡ spec.unprotected }
     {
@@ -87,18 +60,4 @@ impl Parameters {
             constant_iv: StartVector([0; StartVector::SIZE]),
         }
     }
-}
-
-// What reading a box answers.
-#[derive(Clone, Copy)]
-pub struct BoxRead {
-    pub answer: u8,
-    pub parameters: Parameters,
-}
-
-// What writing a box answers: the number of bytes written, 0 if refused.
-#[derive(Clone, Copy)]
-pub struct BoxWritten {
-    pub answer: u8,
-    pub length: usize,
 }

@@ -5,7 +5,8 @@ ghost use Rattle.std.specs.Prelude.{true, ◌∷◌, ◌++◌, ◌≡◌, ◌+�
 ghost use Rattle.octets.specs.Bytes.{placed};
 ghost use Rattle.track_spec.specs.Track as spec;
 
-use track_spec::{BoxWritten, Parameters, StartVector, refusal};
+use refusals::Refusal;
+use track_spec::{Parameters, StartVector};
 
 // Zero byte, pattern byte, protected flag and IV size.
 fn front(p: Parameters) -> [u8; 4]
@@ -20,9 +21,8 @@ fn store_front(p: Parameters, out: &mut [u8], at: usize)
     requires { (p.crypt ≤ 15) × (p.skip ≤ 15) × (at ≤ 12) }
     ensures { out.new ≡ placed (placed out.old at (spec.front_bytes p)) (at + 4) p.kid.0 }
 {
-    let kid = p.kid;
     octets::copy(&front(p), out, at);
-    octets::copy(&kid.bytes(), out, at + 4);
+    octets::copy(&p.kid.0, out, at + 4);
 }
 
 // Stores a constant IV with its size from a place on.
@@ -31,7 +31,7 @@ fn store_constant(iv: StartVector, out: &mut [u8], at: usize)
     ensures { out.new ≡ placed out.old at (16 ∷ iv.0) }
 {
     octets::copy(&[Parameters::CONSTANT_IV_SIZE], out, at);
-    octets::copy(&iv.bytes(), out, at + 1);
+    octets::copy(&iv.0, out, at + 1);
 }
 
 // Stores the fields of allowed parameters from a place on.
@@ -41,8 +41,7 @@ fn store_fields(p: Parameters, out: &mut [u8], at: usize)
 {
     store_front(p, out, at);
     if track_allowed::has_constant(p.protected, p.iv_size) {
-        let iv = p.constant_iv;
-        store_constant(iv, out, at + 20);
+        store_constant(p.constant_iv, out, at + 20);
     }
 }
 
@@ -56,25 +55,16 @@ fn store(p: Parameters, size: usize, out: &mut [u8])
     store_fields(p, out, boxes::HEADER);
 }
 
-// Writes the box of some parameters: 1, 3, 4, 17. Only the box's bytes change, and none if refused.
-pub fn write(parameters: Parameters, out: &mut [u8]) -> BoxWritten
-    ensures { (result ≡ spec.write_box parameters (length out.old))
-        × (out.new ≡ spec.after_writing parameters out.old) }
+// Writes the box of some parameters and answers its length: 1, 3, 4, 17. Only the box's bytes change, and none if refused.
+pub fn write(parameters: Parameters, out: &mut [u8]) -> Result<usize, Refusal>
+    ensures answer { spec.as_box_written result ≡ spec.write_box parameters (length out.old) }
+    ensures output { out.new ≡ spec.after_writing parameters out.old }
 {
-    let answer = track_allowed::check(parameters);
-    if answer != refusal::DONE {
-        return BoxWritten { answer, length: 0 };
-    }
+    track_allowed::check(parameters)?;
     let length = track_allowed::box_length(parameters.protected, parameters.iv_size);
     if out.len() < length {
-        return BoxWritten {
-            answer: refusal::ROOM,
-            length: 0,
-        };
+        return Err(Refusal::Room);
     }
     store(parameters, length, out);
-    BoxWritten {
-        answer: refusal::DONE,
-        length,
-    }
+    Ok(length)
 }

@@ -2,13 +2,16 @@
 #![tactic(auto)]
 
 ghost use Rattle.std.specs.Prelude.{true, ◌≡◌, ◌+◌, ◌<◌};
+ghost use Rattle.refusals.specs.Refusals.{answer_of};
 ghost use Rattle.volume_spec.specs.Volume as spec;
 
-pub use volume_spec::{Entry, Found, Trailer, Written, refusal};
+pub use refusals::Refusal;
+pub use volume_spec::{Entry, Found, Trailer};
 pub use volume_valid::check;
 pub use volume_write::{add, empty};
 
 // An entry of a valid volume's index, counted from 0.
+#[tactic(auto, using(volume_spec::proofs::Valid::filled_by))]
 fn entry_of(volume: &[u8], index: u64) -> Entry
     requires { (spec.valid volume.now ≡ true) × (index < (spec.trailer volume.now).count) }
     ensures { result ≡ spec.entry_of volume.now index }
@@ -17,58 +20,43 @@ fn entry_of(volume: &[u8], index: u64) -> Entry
     volume_valid::read_entry(volume, offset + index as usize * Entry::SIZE)
 }
 
-fn not_found(answer: u8) -> Found
-    ensures { result ≡ record { answer = answer; offset = 0; length = 0 } }
-{
-    Found {
-        answer,
-        offset: 0,
-        length: 0,
-    }
-}
-
 // Hands out a record by its index, counted from 0: 50 and 51.
-pub fn record(volume: &[u8], index: u64) -> Found
-    ensures { result ≡ spec.found volume.now index }
+#[tactic(auto, unfolding(volume_spec::specs::Volume::found, octets::specs::Answers::answer))]
+pub fn record(volume: &[u8], index: u64) -> Result<Found, Refusal>
+    ensures { spec.as_found result ≡ spec.found volume.now index }
 {
     if !volume_valid::is_valid(volume) {
-        return not_found(refusal::NOT_VALID);
+        return Err(Refusal::NotValid);
     }
     if volume_valid::read_trailer(volume).count <= index {
-        return not_found(refusal::NO_RECORD);
+        return Err(Refusal::NoRecord);
     }
     let entry = entry_of(volume, index);
-    Found {
-        answer: refusal::DONE,
+    Ok(Found {
         offset: entry.offset as usize,
         length: entry.length as usize,
-    }
+    })
 }
 
 // Whether a record may be disposed of: 50, 51, 52 and 54.
-pub fn disposable(volume: &[u8], index: u64, today: u32) -> u8
-    ensures { result ≡ spec.disposable volume.now index today }
+#[tactic(auto, unfolding(volume_spec::specs::Volume::disposable, octets::specs::Answers::answer))]
+pub fn disposable(volume: &[u8], index: u64, today: u32) -> Result<(), Refusal>
+    ensures { answer_of result ≡ spec.disposable volume.now index today }
 {
     if !volume_valid::is_valid(volume) {
-        return refusal::NOT_VALID;
+        return Err(Refusal::NotValid);
     }
     let trailer = volume_valid::read_trailer(volume);
     if trailer.count <= index {
-        return refusal::NO_RECORD;
+        return Err(Refusal::NoRecord);
     }
     if today < trailer.latest {
-        return refusal::SET_BACK;
+        return Err(Refusal::SetBack);
     }
     let entry = entry_of(volume, index);
-    if (today as u64) < term_end(entry.day, entry.term) {
-        return refusal::TERM;
+    // Day stored plus term may pass the largest 32-bit number.
+    if u64::from(today) < u64::from(entry.day) + u64::from(entry.term) {
+        return Err(Refusal::Term);
     }
-    refusal::DONE
-}
-
-// Day stored plus term, which may pass the largest 32-bit number.
-fn term_end(day: u32, term: u32) -> u64
-    ensures { result ≡ day + term }
-{
-    day as u64 + term as u64
+    Ok(())
 }

@@ -2,7 +2,7 @@
 use mathlib.Core.Bool.{Bool, true, false}
 use mathlib.Core.List.{List, [], ◌∷◌, ◌++◌}
 use mathlib.Core.Path.{◌≡◌, refl, sym, ap, ◌∙◌}
-use Prim.Native.Nat.{ℕ, zero, suc, ◌+◌, ◌-◌, ◌*◌, ◌≤◌, ◌<◌, max}
+use Prim.Native.Nat.{ℕ, zero, suc, ◌+◌, ◌*◌, ◌≤◌, ◌<◌, max}
 use native.Mathlib.Omega.{arith}
 use lib.Dec.{eqb}
 use lib.ListN.{length, get_or}
@@ -13,13 +13,6 @@ use Rattle.volume_spec.specs.Volume.{entry_at, entries, adjoining, largest_day}
 use Rattle.volume_spec.proofs.Fields.{entry_before, entry-behind}
 
 -- ---- One by one.
-
-pub entries_first : (v : List ℕ) (at n : ℕ) → 0 < n → entries v at n ≡ entry_at v at ∷ entries v (at + 24) (n - 1)
-unfolding entries
-entries_first v at zero h = absurd (omega arith)
-entries_first v at (suc n) h =
-    let e : suc n - 1 ≡ n = omega arith in
-    rw e
 
 pub entries_last : (v : List ℕ) (at n : ℕ) → entries v at (suc n) ≡ entries v at n ++ (entry_at v (at + n * 24) ∷ [])
 unfolding entries

@@ -1,6 +1,5 @@
 pub mod Fields
 pub mod Entries
-pub mod Room
 pub mod Placing
 pub mod Valid
 pub mod Records

@@ -23,10 +23,6 @@ module _ (v : List ℕ) where
   check-valid h = rw h
 
   module _ (k : ℕ) where
-    pub record_not_valid : valid v ≡ false → answer (record_rows v k) ≡ 50
-    unfolding answer
-    record_not_valid h = rw h
-
     pub record_there : valid v ≡ true → k < (trailer v).count → answer (record_rows v k) ≡ 0
     unfolding answer
     record_there h l = rw (h, lt-leb (trailer v).count k l)

@@ -1,8 +1,8 @@
 -- The test of validity and its record say the same; and the same by the trailer as the code reads it.
-use mathlib.Core.Bool.{Bool, true, false, ◌&&◌, true≢false}
+use mathlib.Core.Bool.{Bool, true, false, ◌&&◌}
 use mathlib.Core.List.{List}
-use mathlib.Core.Path.{◌≡◌, refl, sym, ◌∙◌}
-use Prim.Native.Nat.{ℕ, ◌+◌, ◌*◌, ◌≤◌}
+use mathlib.Core.Path.{◌≡◌, refl}
+use Prim.Native.Nat.{ℕ, ◌+◌, ◌*◌}
 use lib.Dec.{eqb, leb}
 use lib.ListN.{length}
 use borrow.Author.Tests.{leb-true, le-leb, eqb-true, eqb-false, eq-eqb}
@@ -61,15 +61,3 @@ module _ (v : List ℕ) (t : Trailer) (e : t ≡ trailer v) where
 
   pub not_filled : fills (length v) t.offset t.count ≡ false → valid v ≡ false
   not_filled n = not_valid_lem v (λ h. eqb-false (t.offset + t.count * 24 + 24) (length v) n (rw e h.filled))
-
-  pub not_adjoined : adjoining 0 listed t.offset ≡ false → valid v ≡ false
-  not_adjoined n = not_valid_lem v (λ h. true≢false (sym (rw e h.adjoined) ∙ n))
-
-  pub not_last : (t.last ≡ 0 → ⊥) → valid v ≡ false
-  not_last n = not_valid_lem v (λ h. n (rw e h.last))
-
-  -- where all else holds, the latest day decides
-  pub valid_by_day : 24 ≤ length v → fills (length v) t.offset t.count ≡ true → adjoining 0 listed t.offset ≡ true → t.last ≡ 0
-      → valid v ≡ eqb t.latest (largest_day listed)
-  unfolding valid
-  valid_by_day w f a l = rw (← e, le-leb 24 (length v) w, f, a, l)

@@ -1,12 +1,12 @@
 -- What writing a volume answers, and the output after it: the empty volume, and one with one more record.
 use mathlib.Core.List.{List, [], ◌∷◌}
-use mathlib.Core.Bool.{true, false}
-use mathlib.Core.Path.{◌≡◌, refl}
+use mathlib.Core.Bool.{true}
+use mathlib.Core.Path.{◌≡◌}
 use Prim.Native.Nat.{ℕ, ◌+◌, ◌≤◌, ◌<◌}
 use native.Mathlib.Omega.{arith}
 use lib.Dec.{lit<}
 use lib.ListN.{length}
-use borrow.Author.Tests.{not-false, ltb-false, lt-ltb, le-ltb, ne_eqb}
+use borrow.Author.Tests.{not-false, ltb-false, le-ltb, ne_eqb}
 use Rattle.octets.specs.Answers.{Row, answer}
 use Rattle.octets.specs.Bytes.{placed}
 use Rattle.octets.proofs.Answers.{done_head, done_tail, Refusals, none as no_more, more, room_short, room_enough, room_fits, size_fits}
@@ -35,14 +35,6 @@ unfolding trailer_bytes
 length_none = length_fields 0 0 0 0
 
 module _ (room : ℕ) where
-  pub empty_short : room < 24 → answer (empty_rows room) ≡ 53
-  unfolding answer
-  empty_short l = room_short no_more 53 room (length none) (omega arith) refl (omega (arith, length_none))
-
-  pub empty_enough : 24 ≤ room → answer (empty_rows room) ≡ 0
-  unfolding answer
-  empty_enough l = room_enough no_more 53 room (length none) (omega arith) refl (omega (arith, length_none))
-
   -- the length answered is at most the output's
   pub empty_within : (written (empty_rows room) none).length ≤ room
   empty_within = size_fits no_more 53 room (length none) (omega arith)
@@ -79,16 +71,7 @@ module _ (v contents : List ℕ) (term today room : ℕ) where
   unfolding add
   add_within = size_fits (first_refusals v today) 53 room size (omega arith)
 
-  -- the answer in each case
-  pub add_not_valid : valid v ≡ false → answer (add_rows v contents term today room) ≡ 50
-  unfolding answer
-  add_not_valid h = rw h
-
   module _ (h : valid v ≡ true) where
-    pub add-set-back : today < (trailer v).latest → answer (add_rows v contents term today room) ≡ 52
-    unfolding answer
-    add-set-back b = rw (h, lt-ltb today (trailer v).latest b)
-
     module _ (b : (trailer v).latest ≤ today) where
       first_done : answer (first v today) ≡ 0
       unfolding answer

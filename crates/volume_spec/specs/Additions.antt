@@ -2,7 +2,7 @@
 -- volume holds.
 use Rattle.std.specs.Prelude.{cond, List, [], ◌∷◌, ◌++◌, map, ◌≡◌, ℕ, ◌^◌, ◌≤◌, ◌<◌, eqb, length, get_or, take, drop}
 use Rattle.volume_spec.specs.declared.Entry.{Entry}
-use Rattle.volume_spec.specs.declared.Written.{Written}
+use Rattle.volume_spec.specs.Volume.{Written}
 use Rattle.volume_spec.specs.Volume.{index, Valid, none, check, found, add, after_adding}
 
 -- ---- What a volume holds.

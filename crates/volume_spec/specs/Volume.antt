@@ -1,11 +1,25 @@
 -- Document 02, Ask 13, the vault volume: its layout, when it is valid, and what each call on one answers (50 to 54).
 use Rattle.std.specs.Prelude.{Bool, true, cond, not, ◌&&◌, List, [], ◌∷◌, ◌++◌, ◌≡◌, ℕ, zero, suc, ◌+◌, ◌-◌, ◌*◌, ◌≤◌, max, eqb, leb, ltb, length, take, drop}
+use Rattle.std.specs.declared.result.Result.{Result}
+use Rattle.std.specs.declared.result.Result.TheVariants.{Ok, Err}
+use Rattle.refusals.specs.declared.Refusal.{Refusal}
+use Rattle.refusals.specs.Refusals.{refusal_number}
 use Rattle.octets.specs.Answers.{Row, row, answer}
 use Rattle.octets.specs.Bytes.{number, digits, placed}
 use Rattle.volume_spec.specs.declared.Entry.{Entry}
 use Rattle.volume_spec.specs.declared.Trailer.{Trailer}
-use Rattle.volume_spec.specs.declared.Written.{Written}
-use Rattle.volume_spec.specs.declared.Found.{Found}
+use Rattle.volume_spec.specs.declared.Found.{Found as Extent}
+
+-- What writing a volume answers: its length, 0 if refused.
+pub record Written : Type 0 where
+  pub answer : ℕ
+  pub length : ℕ
+
+-- Where a record lies in the volume, 0 and 0 if refused.
+pub record Found : Type 0 where
+  pub answer : ℕ
+  pub offset : ℕ
+  pub length : ℕ
 
 -- ---- The layout: records one after another from offset 0, then an index, then a trailer.
 
@@ -94,6 +108,11 @@ entry_of v k = entry_at v ((trailer v).offset + k * 24)
 abbrev pub record_rows : List ℕ → ℕ → List Row
 record_rows v k = not_valid v ∷ no_record v k ∷ []
 
+-- The answer of a search as a number and a place, at 0 with length 0 for a refusal.
+abbrev pub as_found : Result Extent Refusal → Found
+as_found (Ok f) = record { answer = 0; offset = f.offset; length = f.length }
+as_found (Err r) = record { answer = refusal_number r; offset = 0; length = 0 }
+
 -- Where record k lies.
 unfoldable pub found : List ℕ → ℕ → Found
 found v k =
@@ -104,6 +123,11 @@ found v k =
     }
 
 -- ---- Writing: 53, output short.
+
+-- The answer of a writing as a number and a length, 0 for a refusal.
+abbrev pub as_written : Result ℕ Refusal → Written
+as_written (Ok n) = record { answer = 0; length = n }
+as_written (Err r) = record { answer = refusal_number r; length = 0 }
 
 -- What a call that writes a volume answers by its table: the volume's length, 0 if refused.
 abbrev pub written : List Row → List ℕ → Written

@@ -1,8 +1,6 @@
 // The vault volume (document 02, Ask 13), records one after another, then an index, then a trailer: its structures.
 #![tactic(auto)]
 
-pub mod refusal;
-
 // An entry of the index: where a record lies, the day that it was stored and the days of its term.
 #[derive(Clone, Copy)]
 pub struct Entry {
@@ -31,17 +29,9 @@ impl Trailer {
     pub const SIZE: usize = 24;
 }
 
-// What writing a volume answers: its length, 0 if refused.
-#[derive(Clone, Copy)]
-pub struct Written {
-    pub answer: u8,
-    pub length: usize,
-}
-
-// Where a record lies in the volume, 0 and 0 if refused.
+// Where a record lies in the volume.
 #[derive(Clone, Copy)]
 pub struct Found {
-    pub answer: u8,
     pub offset: usize,
     pub length: usize,
 }

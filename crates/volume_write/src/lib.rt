@@ -5,59 +5,62 @@ ghost use Rattle.std.specs.Prelude.{true, ◌≡◌, ◌+◌, ◌≤◌, ltb, le
 ghost use Rattle.octets.specs.Bytes.{placed};
 ghost use Rattle.volume_spec.specs.Volume as spec;
 
-use volume_spec::{Entry, Trailer, Written, refusal};
+use refusals::Refusal;
+use volume_spec::{Entry, Trailer};
 
-fn not_written(answer: u8) -> Written
-    ensures { result ≡ record { answer = answer; length = 0 } }
+// Stores an index entry from a place on.
+fn store_entry(entry: Entry, out: &mut [u8], at: usize)
+    requires { at + 24 ≤ length out.old }
+    ensures { out.new ≡ placed out.old at (spec.entry_bytes entry) }
 {
-    Written { answer, length: 0 }
+    numbers::put64(entry.offset, out, at);
+    numbers::put64(entry.length, out, at + 8);
+    numbers::put32(entry.day, out, at + 16);
+    numbers::put32(entry.term, out, at + 20);
 }
 
-// Stores the four fields of an index entry or a trailer from a place on, or nothing where they do not fit.
-fn store_fields(a: u64, b: u64, c: u32, d: u32, out: &mut [u8], at: usize)
-    ensures { out.new ≡ placed out.old at (spec.fields a b c d) }
+// Stores a trailer, which has the form of an entry.
+fn store_trailer(trailer: Trailer, out: &mut [u8], at: usize)
+    requires { at + 24 ≤ length out.old }
+    ensures { out.new ≡ placed out.old at (spec.trailer_bytes trailer) }
 {
-    if out.len() < Entry::SIZE {
-        return;
-    }
-    if out.len() - Entry::SIZE < at {
-        return;
-    }
-    numbers::put64(a, out, at);
-    numbers::put64(b, out, at + 8);
-    numbers::put32(c, out, at + 16);
-    numbers::put32(d, out, at + 20);
+    let last = Entry {
+        offset: trailer.offset,
+        length: trailer.count,
+        day: trailer.latest,
+        term: trailer.last,
+    };
+    store_entry(last, out, at);
 }
 
-// Writes the empty volume: 53. Only its bytes change, and none if refused.
-pub fn empty(out: &mut [u8]) -> Written
-    ensures { (result ≡ spec.written (spec.empty_rows (length out.old)) spec.none)
-        × (out.new ≡ spec.output_after (spec.empty_rows (length out.old)) spec.none out.old) }
+// Writes the empty volume and answers its length: 53. Only its bytes change, and none if refused.
+#[tactic(auto, using(volume_spec::proofs::Writing::length_none), unfolding(octets::specs::Answers::answer))]
+pub fn empty(out: &mut [u8]) -> Result<usize, Refusal>
+    ensures answer { spec.as_written result ≡ spec.written (spec.empty_rows (length out.old)) spec.none }
+    ensures output { out.new ≡ spec.output_after (spec.empty_rows (length out.old)) spec.none out.old }
 {
     if out.len() < Trailer::SIZE {
-        return not_written(refusal::ROOM);
+        return Err(Refusal::VolumeRoom);
     }
-    store_fields(0, 0, 0, 0, out, 0);
-    Written {
-        answer: refusal::DONE,
-        length: Trailer::SIZE,
-    }
+    let none = Trailer {
+        offset: 0,
+        count: 0,
+        latest: 0,
+        last: 0,
+    };
+    store_trailer(none, out, 0);
+    Ok(Trailer::SIZE)
 }
 
 // Whether an output is shorter than a volume with one more record.
 fn is_short(volume: usize, record: usize, room: usize) -> bool
     ensures { result ≡ ltb room (volume + «record» + 24) }
 {
-    if room < volume {
-        return true;
-    }
-    if room - volume < record {
-        return true;
-    }
-    room - volume - record < Entry::SIZE
+    (room as u128) < volume as u128 + record as u128 + Entry::SIZE as u128
 }
 
 // Stores a valid volume with one more record in front of an output that has room for it.
+#[tactic(auto, using(volume_spec::proofs::Valid::filled_by))]
 fn store(volume: &[u8], record: &[u8], term: u32, today: u32, out: &mut [u8])
     requires { (spec.valid volume.now ≡ true) × (length volume.now + length «record».now + 24 ≤ length out.old) }
     ensures { out.new ≡ placed out.old 0 (spec.added volume.now «record».now term today) }
@@ -68,31 +71,46 @@ fn store(volume: &[u8], record: &[u8], term: u32, today: u32, out: &mut [u8])
     let next = offset + record.len();
     let entry = end + record.len();
     let trailer = entry + Entry::SIZE;
-    let count = old.count + 1;
-    octets::copy(&volume[0..offset], out, 0);
+    octets::copy(&volume[..offset], out, 0);
     octets::copy(record, out, offset);
     octets::copy(&volume[offset..end], out, next);
-    store_fields(old.offset, record.len() as u64, today, term, out, entry);
-    store_fields(next as u64, count, today, 0, out, trailer);
+    let stored = Entry {
+        offset: old.offset,
+        length: record.len() as u64,
+        day: today,
+        term,
+    };
+    let last = Trailer {
+        offset: next as u64,
+        count: old.count + 1,
+        latest: today,
+        last: 0,
+    };
+    store_entry(stored, out, entry);
+    store_trailer(last, out, trailer);
 }
 
-// Writes the volume with one more record, whose day is today: 50, 52 and 53. Only its bytes change, and none if refused.
-pub fn add(volume: &[u8], record: &[u8], term: u32, today: u32, out: &mut [u8]) -> Written
-    ensures { (result ≡ spec.add volume.now «record».now term today (length out.old))
-        × (out.new ≡ spec.after_adding volume.now «record».now term today out.old) }
+// Writes the volume with one more record, whose day is today, and answers its length: 50, 52 and 53. Only its bytes change, and none if refused.
+#[tactic(auto, unfolding(volume_spec::specs::Volume::add, volume_spec::specs::Volume::after_adding, octets::specs::Answers::answer))]
+pub fn add(
+    volume: &[u8],
+    record: &[u8],
+    term: u32,
+    today: u32,
+    out: &mut [u8],
+) -> Result<usize, Refusal>
+    ensures answer { spec.as_written result ≡ spec.add volume.now «record».now term today (length out.old) }
+    ensures output { out.new ≡ spec.after_adding volume.now «record».now term today out.old }
 {
     if !volume_valid::is_valid(volume) {
-        return not_written(refusal::NOT_VALID);
+        return Err(Refusal::NotValid);
     }
     if today < volume_valid::read_trailer(volume).latest {
-        return not_written(refusal::SET_BACK);
+        return Err(Refusal::SetBack);
     }
     if is_short(volume.len(), record.len(), out.len()) {
-        return not_written(refusal::ROOM);
+        return Err(Refusal::VolumeRoom);
     }
     store(volume, record, term, today, out);
-    Written {
-        answer: refusal::DONE,
-        length: volume.len() + record.len() + Entry::SIZE,
-    }
+    Ok(volume.len() + record.len() + Entry::SIZE)
 }

@@ -2,8 +2,6 @@ use mathlib.Core.Path.{◌≡◌, refl, sym, ap, ap₂, ◌∙◌}
 use Prim.Native.Nat.{◌+◌}
 use Rattle.fips197.specs.Field.{xtime}
 use Rattle.fips197.specs.KeyExpansion.{rcon, next_key}
-use Rattle.fips197.specs.Table.{sbox}
-use Rattle.fips197.proofs.SBox.{sbox_rule}
 use Rattle.fips197.proofs.KeyExpansion.{round_key_zero, round_key-next, rcon-next, keys_start, keys_next, keys_all}
 use native.Mathlib.Omega.{arith}
 use Rattle.aes.proofs.key_expansion.Goals as goal
@@ -13,10 +11,6 @@ unfolding rcon
 loop-i-init c =
     let key = c.args.key in
     rw c.load-k.ensures (omega arith, sym (round_key_zero key), refl, keys_start key)
-
-pub next_key-next-requires : goal.next_key-next-requires
-unfolding sbox
-next_key-next-requires c = sbox_rule
 
 pub loop-i-preserved : goal.loop-i-preserved
 loop-i-preserved c =

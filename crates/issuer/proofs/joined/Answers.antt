@@ -1,16 +1,18 @@
-use mathlib.Core.List.{List, ◌++◌}
-use mathlib.Core.Path.{◌≡◌, sym, ap₂, ◌∙◌}
-use Prim.Native.Nat.{ℕ}
+use mathlib.Core.List.{List, ◌++◌, append-nil}
+use mathlib.Core.Path.{◌≡◌}
+use Prim.Native.Nat.{ℕ, ◌≤◌}
 use lib.ListN.{length}
-use Rattle.octets.proofs.Bytes.{filled-list_of, filled_all}
+use lib.Seq.{take_at, drop_at}
 use borrow.Author.Rules.{rules}
+use borrow.Rule.Slice.PartMut.{put_mid}
+use Rattle.std.proofs.lemmas.List.{drop_all}
 use Rattle.issuer.proofs.joined.Goals as goal
 
--- eight bytes, read one by one
+-- what is written over the rest of a string
+behind : (a b rest : List ℕ) (n m : ℕ) → length a ≡ n → length rest ≤ m → put_mid n m (a ++ rest) b ≡ a ++ b
+behind a b rest n m e l = rw (take_at a rest n e, drop_at a rest n e, drop_all m rest l, append-nil b)
+
 pub returns : goal.returns
 returns c =
-    let a = c.args.a in
-    let b = c.args.b in
-    let l : length a ≡ 8 = search rules in
-    let m : length b ≡ 8 = search rules in
-    ap₂ (λ (x y : List ℕ). x ++ y) (sym (filled-list_of 8 a) ∙ filled_all 8 a l) (sym (filled-list_of 8 b) ∙ filled_all 8 b m)
+    let l : length c.args.a ≡ 8 = search rules in
+    rw (c.copy_from_slice-2.ensures.after, c.copy_from_slice.ensures.after) (behind c.args.a c.args.b _ 8 8 l (lib.Dec.lit≤ tt))

@@ -1,23 +1,22 @@
-use mathlib.Core.List.{◌++◌}
-use mathlib.Core.Path.{◌≡◌, refl, sym, ◌∙◌}
-use lib.ListN.{get_or}
-use Rattle.octets.proofs.Fill.{fill_none, fill_next, fill_all}
-use Rattle.octets.proofs.Bytes.{list_of-next, filled-list_of}
-use native.Mathlib.Omega.{arith}
+use mathlib.Core.List.{List, ◌++◌}
+use mathlib.Core.Path.{◌≡◌, sym, ap, ◌∙◌}
+use Prim.Native.Nat.{ℕ}
+use lib.ListN.{take, drop, length, replicate, length-append}
+use Rattle.std.proofs.Common.{rules, arith}
+use Rattle.std.proofs.lemmas.List.{same_lists, places}
+use Rattle.octets.specs.Bytes.{filled}
+use Rattle.joined.specs.Joined.{joined_into}
 use Rattle.joined.proofs.sixteen.Goals as goal
 
-pub loop-i-init : goal.loop-i-init
-loop-i-init c = (omega arith, fill_none _ _ refl)
-
-pub loop-i-preserved : goal.loop-i-preserved
-loop-i-preserved c =
-    let l = c.loop-i in
-    let s = c.args in
-    (omega arith, rw c.byte_of.ensures (fill_next l.invariant.1 (omega arith) _ _ (list_of-next (λ j. get_or (s.first.now ++ s.second.now) j 0) l.i)))
+-- what is left of the zeros behind a string fills it out as all of them do
+zeros_behind : (n : ℕ) (s : List ℕ) → take n (s ++ drop (length s) (replicate n 0)) ≡ filled n s
+unfolding filled
+zeros_behind n s = same_lists _ _ (search (rules, places)) (λ k d h. grind (arith, places))
 
 pub returns : goal.returns
+unfolding joined_into
 returns c =
-    let l = c.loop-i in
-    let s = c.args in
-    let e : l.i ≡ 16 = omega arith in
-    fill_all l.invariant.1 (omega arith) ∙ rw e (sym (filled-list_of 16 (s.first.now ++ s.second.now)))
+    let s = c.args.first.now ++ c.args.second.now in
+    c.join.ensures
+    ∙ ap (λ (k : ℕ). take 16 (s ++ drop k (replicate 16 0))) (sym (length-append c.args.first.now c.args.second.now))
+    ∙ zeros_behind 16 s

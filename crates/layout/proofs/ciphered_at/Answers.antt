@@ -1,3 +1,5 @@
+use mathlib.Core.Logic.{inl, inr}
+use mathlib.Core.Path.{◌∙◌}
 use Rattle.scheme.specs.Layout.{is_ciphered, in_whole_block}
 use Rattle.layout.proofs.ciphered_at.Goals as goal
 
@@ -11,8 +13,4 @@ returns-in-Cbc1 c = rw c.in-Cbc1.is
 
 pub returns-in-Cens : goal.returns-in-Cens
 unfolding is_ciphered
-returns-in-Cens c = rw c.in-Cens.is c.in_pattern.ensures
-
-pub returns-in-Cbcs : goal.returns-in-Cbcs
-unfolding is_ciphered
-returns-in-Cbcs c = rw c.in-Cbcs.is c.in_pattern-in-Cbcs.ensures
+returns-in-Cens c = c.in_pattern.ensures ∙ elim c.in-Cens.is [ inl e ↦ rw e | inr e ↦ rw e ]

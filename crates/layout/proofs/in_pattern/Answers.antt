@@ -4,18 +4,18 @@ use Rattle.scheme.proofs.Patterns.{every_block, by_period}
 use native.Mathlib.Omega.{arith}
 use Rattle.layout.proofs.in_pattern.Goals as goal
 
-pub returns-then-n-o : goal.returns-then-n-o
-unfolding in_whole_block
-returns-then-n-o c = rw (le-ltb _ _ c.if-n-o.true)
-
 pub returns-then-period-eq0 : goal.returns-then-period-eq0
 unfolding in_whole_block
 returns-then-period-eq0 c =
     let a = c.args in
-    rw (lt-ltb _ _ c.if-n-o.false, every_block a.pattern a.o (omega (arith, c.if-period-eq0.true)))
+    rw (lt-ltb _ _ c.if-block-n.true, every_block a.pattern a.o c.if-period-eq0.true, c.if-period-eq0.true)
 
-pub returns : goal.returns
+pub returns-else-period-eq0 : goal.returns-else-period-eq0
 unfolding in_whole_block
-returns c =
+returns-else-period-eq0 c =
     let a = c.args in
-    rw (lt-ltb _ _ c.if-n-o.false, by_period a.pattern a.o (omega (arith, c.if-period-eq0.false)))
+    rw (lt-ltb _ _ c.if-block-n.true, by_period a.pattern a.o (omega (arith, c.if-period-eq0.false)))
+
+pub returns-else-block-n : goal.returns-else-block-n
+unfolding in_whole_block
+returns-else-block-n c = rw (le-ltb _ _ c.if-block-n.false)

@@ -1,21 +1,17 @@
-use mathlib.Core.Path.{sym, ◌∙◌}
-use Rattle.scheme.proofs.Locating.{used_cenc, used_in, used_out, used_clear, is_cenc, no_cenc}
+use mathlib.Core.Path.{sym, ◌∙◌, refl}
+use Rattle.scheme.proofs.Locating.{used_in, used_out, used_clear, no_cenc}
 use Rattle.layout.proofs.used_at.Goals as goal
 
-pub returns-then-every_byte : goal.returns-then-every_byte
-returns-then-every_byte c =
-    used_cenc c.locate-p.ensures _ _ (is_cenc c.args.scheme (sym c.every_byte.ensures ∙ c.if-every_byte.true))
-
-pub returns-then-ciphered_at : goal.returns-then-ciphered_at
-returns-then-ciphered_at c =
-    used_in c.locate-p.ensures _ _ (no_cenc c.args.scheme (sym c.every_byte.ensures ∙ c.if-every_byte.false)) c.if-p.true
+pub returns-in-Some : goal.returns-in-Some
+returns-in-Some c =
+    used_in (rw c.in-Some.is at c.locate-p.ensures) _ _ (no_cenc c.args.scheme (sym c.every_byte.ensures ∙ c.if-every_byte.false)) refl
     (sym c.ciphered_at.ensures ∙ c.if-ciphered_at.true)
 
-pub returns-else-ciphered_at : goal.returns-else-ciphered_at
-returns-else-ciphered_at c =
-    used_out c.locate-p.ensures _ _ (no_cenc c.args.scheme (sym c.every_byte.ensures ∙ c.if-every_byte.false)) c.if-p.true
+pub returns-in_default : goal.returns-in_default
+returns-in_default c =
+    used_out (rw c.in-Some.is at c.locate-p.ensures) _ _ (no_cenc c.args.scheme (sym c.every_byte.ensures ∙ c.if-every_byte.false)) refl
     (sym c.ciphered_at.ensures ∙ c.if-ciphered_at.false)
 
-pub returns-else-p : goal.returns-else-p
-returns-else-p c =
-    used_clear c.locate-p.ensures _ _ (no_cenc c.args.scheme (sym c.every_byte.ensures ∙ c.if-every_byte.false)) c.if-p.false
+pub returns-in_default-2 : goal.returns-in_default-2
+returns-in_default-2 c =
+    used_clear (rw c.in_default.is at c.locate-p.ensures) _ _ (no_cenc c.args.scheme (sym c.every_byte.ensures ∙ c.if-every_byte.false)) refl

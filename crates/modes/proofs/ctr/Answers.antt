@@ -1,10 +1,11 @@
-use Rattle.std.proofs.Common.{◌≡◌, ℕ, ◌+◌, ◌-◌, ◌*◌, ◌/◌, ◌%◌, List, length, get_or, take, drop, sym, ◌∙◌, arith, take_all, w8, Fits, rules}
+use Rattle.std.proofs.Common.{◌≡◌, ℕ, ◌+◌, ◌-◌, ◌*◌, ◌/◌, ◌%◌, List, length, get_or, take, sym, ◌∙◌, arith, take_all, w8, Fits, rules}
 use borrow.Rule.Slice.PartMut.{put_mid}
 use Rattle.aes.specs.Block.{encipher}
 use Rattle.octets.proofs.Fill.{Filled, fill_length, fill_all}
 use Rattle.modes_spec.specs.Modes.{ctr}
 use Rattle.modes_spec.proofs.Counter.{steps, no_step}
-use Rattle.modes_spec.proofs.Streamed.{shorter, stream_start, stream_part, stream_next, stream_same, ctr_from}
+use Rattle.modes_spec.proofs.Streamed.{stream_start, stream_part, stream_next, stream_same, ctr_from}
+use Rattle.modes.proofs.ctr.Goals.{After-xor_part}
 use Rattle.modes.proofs.ctr.Goals as goal
 
 pub loop-at-init : goal.loop-at-init
@@ -15,42 +16,38 @@ loop-at-init c =
     let z : (c.args.used % 16) / 16 ≡ 0 = omega arith in
     stream_start _ b _ _ b (rw z (sym (no_step b n (λ i. (f i).fits))))
 
-pub xor_part-requires : goal.xor_part-requires
-xor_part-requires c =
+-- one part more is done, whether or not it ends a block
+turned : (c : After-xor_part) → (let l = c.loop-at in let n : ℕ = c.min.result in let a = c.args in
+    Filled a.part.now (put_mid l.at (l.at + n - l.at) l.part c.xor_part.new.part)
+    (ctr (encipher a.keys) c.counter_after-b.result (a.used % 16) (take (l.at + n) a.part.now)) (l.at + n))
+turned c =
     let l = c.loop-at in
-    omega (arith, c.least.ensures, shorter (l.at + c.least.result - l.at) (drop l.at l.part))
-
-pub loop-at-smaller-then-from-at-eq0 : goal.loop-at-smaller-then-from-at-eq0
-loop-at-smaller-then-from-at-eq0 c =
-    omega (arith, fill_length c.loop-at.invariant.filled, c.least.ensures, c.loop-at-test.true)
+    let n : ℕ = c.min.result in
+    let m = c.min.ensures in
+    let t = c.loop-at-test.true in
+    let pad = c.encipher.result.0 in
+    let k : length pad ≡ 16 = search rules in
+    stream_part l.invariant n (omega (arith, m, t)) (omega (arith, m)) (omega (arith, m, t, fill_length l.invariant.filled))
+    pad c.xor_part.new.part k c.encipher.ensures c.xor_part.ensures
 
 pub loop-at-preserved-then-from-at-eq0 : goal.loop-at-preserved-then-from-at-eq0
 loop-at-preserved-then-from-at-eq0 c =
-    let turned : (let l = c.loop-at in let n : ℕ = c.least.result in let a = c.args in Filled a.part.now (put_mid l.at (l.at + n - l.at) l.part c.xor_part.new.part) (ctr (encipher a.keys) c.counter_after-b.result (a.used % 16) (take (l.at + n) a.part.now)) (l.at + n)) = let l = c.loop-at in let n : ℕ = c.least.result in let pad = c.enciphered-pad.result in let k : length pad ≡ 16 = search rules in stream_part l.invariant n (omega (arith, c.least.ensures, c.loop-at-test.true)) (omega (arith, c.least.ensures)) (omega (arith, c.least.ensures, c.loop-at-test.true, fill_length l.invariant.filled)) pad c.xor_part.new.part k c.enciphered-pad.ensures c.xor_part.ensures in
-    let e = c.least.ensures in
+    let e = c.min.ensures in
     let l = c.loop-at-test.true in
     let k : length c.counter_after-b.result ≡ 16 = search rules in
     record {
-      filled = turned;
-      block = c.counter_after-next.ensures ∙ stream_next c.loop-at.invariant c.least.result (omega (arith, e, l)) (omega (arith, e, l)) (omega arith) c.if-from-at-eq0.true;
+      filled = turned (goal.at.loop-at-preserved-then-from-at-eq0 c).After-xor_part;
+      block = c.counter_after-next.ensures ∙ stream_next c.loop-at.invariant c.min.result (omega (arith, e, l)) (omega (arith, e, l)) (omega arith) c.if-from-at-eq0.true;
     }
-
-pub loop-at-smaller : goal.loop-at-smaller
-loop-at-smaller c =
-    omega (arith, fill_length c.loop-at.invariant.filled, c.least.ensures, c.loop-at-test.true)
 
 pub loop-at-preserved : goal.loop-at-preserved
 loop-at-preserved c =
-    let turned : (let l = c.loop-at in let n : ℕ = c.least.result in let a = c.args in Filled a.part.now (put_mid l.at (l.at + n - l.at) l.part c.xor_part.new.part) (ctr (encipher a.keys) c.counter_after-b.result (a.used % 16) (take (l.at + n) a.part.now)) (l.at + n)) = let l = c.loop-at in let n : ℕ = c.least.result in let pad = c.enciphered-pad.result in let k : length pad ≡ 16 = search rules in stream_part l.invariant n (omega (arith, c.least.ensures, c.loop-at-test.true)) (omega (arith, c.least.ensures)) (omega (arith, c.least.ensures, c.loop-at-test.true, fill_length l.invariant.filled)) pad c.xor_part.new.part k c.enciphered-pad.ensures c.xor_part.ensures in
-    let e = c.least.ensures in
+    let e = c.min.ensures in
     let l = c.loop-at-test.true in
     record {
-      filled = turned;
-      block = stream_same c.loop-at.invariant c.least.result (omega (arith, e, l)) (omega (arith, e, l)) c.if-from-at-eq0.false;
+      filled = turned (goal.at.loop-at-preserved c).After-xor_part;
+      block = stream_same c.loop-at.invariant c.min.result (omega (arith, e, l)) (omega (arith, e, l)) c.if-from-at-eq0.false;
     }
-
-pub shape_of-part : goal.shape_of-part
-shape_of-part c = fill_length c.loop-at.invariant.filled
 
 pub returns : goal.returns
 returns c =

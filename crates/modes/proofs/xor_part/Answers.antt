@@ -7,15 +7,6 @@ use Rattle.modes.proofs.xor_part.Goals as goal
 pub loop-i-init : goal.loop-i-init
 loop-i-init c = fill_none _ _ (xors-none _)
 
-pub overflow_add-part : goal.overflow_add-part
-overflow_add-part c = omega (arith, fill_length c.loop-i.invariant)
-
-pub bounds-pad-used : goal.bounds-pad-used
-bounds-pad-used c = omega (arith, fill_length c.loop-i.invariant)
-
-pub loop-i-smaller : goal.loop-i-smaller
-loop-i-smaller c = omega (arith, fill_length c.loop-i.invariant)
-
 pub loop-i-preserved : goal.loop-i-preserved
 unfolding ◌⊕◌
 loop-i-preserved c =
@@ -29,9 +20,6 @@ loop-i-preserved c =
     rw (fill_at f l)
     (fill_next f l (get_or xs i 0 ⊕ get_or a.pad (a.used + i) 0) _
     (rw get_or-drop at (xors-next xs (drop a.used a.pad) i l k)))
-
-pub shape_of-part : goal.shape_of-part
-shape_of-part c = fill_length c.loop-i.invariant
 
 pub returns : goal.returns
 returns c =

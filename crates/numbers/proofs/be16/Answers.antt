@@ -1,11 +1,7 @@
-use Rattle.octets.proofs.Bytes.{number_below}
-use native.Mathlib.Omega.{arith}
+use Rattle.std.proofs.Common.{ap, ◌∙◌}
+use Rattle.std.specs.Int.{w16, from_be_bytes}
+use Rattle.octets.proofs.BigEndian.{be-2}
 use Rattle.numbers.proofs.be16.Goals as goal
 
-pub overflow_cast-result : goal.overflow_cast-result
-overflow_cast-result c =
-    let a = c.args in
-    record {
-      fits =
-          omega (arith, c.number.ensures, number_below 2 a.s.now a.at (λ i. omega (arith, c.shared_slice_known-1.given i)));
-    }
+pub returns : goal.returns
+returns c = c.from_be_bytes.ensures ∙ ap (from_be_bytes w16) c.filled_at.ensures ∙ be-2 _ _

@@ -1,11 +1,6 @@
-use Rattle.octets.proofs.Bytes.{number_below}
-use native.Mathlib.Omega.{arith}
+use Rattle.std.proofs.Common.{◌∙◌}
+use Rattle.octets.proofs.BigEndian.{be-3}
 use Rattle.numbers.proofs.be24.Goals as goal
 
-pub overflow_cast-result : goal.overflow_cast-result
-overflow_cast-result c =
-    let a = c.args in
-    record {
-      fits =
-          omega (arith, c.number.ensures, number_below 3 a.s.now a.at (λ i. omega (arith, c.shared_slice_known-1.given i)));
-    }
+pub returns : goal.returns
+returns c = c.from_be_bytes.ensures ∙ be-3 _ _ _ c.filled_at.ensures

@@ -1,11 +1,7 @@
-use Rattle.octets.proofs.Bytes.{number_below}
-use native.Mathlib.Omega.{arith}
+use Rattle.std.proofs.Common.{ap, ◌∙◌}
+use Rattle.std.specs.Int.{w32, from_be_bytes}
+use Rattle.octets.proofs.BigEndian.{be-4}
 use Rattle.numbers.proofs.be32.Goals as goal
 
-pub overflow_cast-result : goal.overflow_cast-result
-overflow_cast-result c =
-    let a = c.args in
-    record {
-      fits =
-          omega (arith, c.number.ensures, number_below 4 a.s.now a.at (λ i. omega (arith, c.shared_slice_known-1.given i)));
-    }
+pub returns : goal.returns
+returns c = c.from_be_bytes.ensures ∙ ap (from_be_bytes w32) c.filled_at.ensures ∙ be-4 _ _

@@ -1,8 +1,7 @@
-use mathlib.Core.Path.{ap, ◌∙◌}
+use Rattle.std.proofs.Common.{ap, ◌∙◌}
 use Rattle.octets.specs.Bytes.{placed}
+use Rattle.octets.proofs.BigEndian.{to_be-4}
 use Rattle.numbers.proofs.put32.Goals as goal
 
 pub returns : goal.returns
-returns c =
-    let a = c.args in
-    c.copy.ensures ∙ ap (placed a.out.now a.at) c.bytes32.ensures
+returns c = c.copy.ensures ∙ ap (placed _ _) (c.to_be_bytes.ensures ∙ to_be-4 _ c.ranges.n.fits)

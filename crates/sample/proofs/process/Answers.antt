@@ -1,20 +1,23 @@
-use mathlib.Core.Path.{sym, ◌∙◌}
-use Rattle.sample_spec.specs.Sample.{Inputs, inputs, OfBytes}
+use Rattle.std.proofs.Common.{◌≡◌, refl, ◌∙◌, rules, arith, Err}
+use Rattle.refusals.proofs.Numbers.{number_positive}
+use Rattle.sample_spec.specs.Sample.{lent, OfBytes}
 use Rattle.sample_spec.proofs.Accepted.{inputs-answer, after-refused, after_done}
-use native.Mathlib.Omega.{arith}
 use Rattle.sample.proofs.process.Goals as goal
 
-pub returns-then-inputs-ne-DONE : goal.returns-then-inputs-ne-DONE
-returns-then-inputs-ne-DONE c =
-    let given : Inputs = inputs c.args.code.now c.args.track_box.now c.args.auxiliary.now c.args.key_record.now in (
-      inputs-answer given c.args.sample.now c.read_inputs-inputs.result c.read_inputs-inputs.ensures,
-      after-refused given c.args.sample.now c.read_inputs-inputs.result c.read_inputs-inputs.ensures _ c.if-inputs-ne-DONE.true,
-    )
+pub returns-in_err-read-clause-answer : goal.returns-in_err-read-clause-answer
+returns-in_err-read-clause-answer c =
+    let e : c.from_residual.result ≡ Err c.in_err-read.field-0.0 = search rules in
+    rw e (inputs-answer (lent c.args.inputs) c.args.sample.now _ c.in_err-read.ensures)
 
-pub returns : goal.returns
-returns c =
-    let given : Inputs = inputs c.args.code.now c.args.track_box.now c.args.auxiliary.now c.args.key_record.now in
-    let of_bytes : OfBytes given = record { box = λ k. omega (arith, c.shared_slice_known-2-1.given k); auxiliary = λ k. omega (arith, c.shared_slice_known-3-1.given k) } in (
-      sym c.if-inputs-ne-DONE.false ∙ inputs-answer given c.args.sample.now c.read_inputs-inputs.result c.read_inputs-inputs.ensures,
-      c.transform.ensures ∙ after_done given c.args.sample.now c.read_inputs-inputs.result c.read_inputs-inputs.ensures _ c.if-inputs-ne-DONE.false of_bytes,
-    )
+pub returns-in_err-read-clause-output : goal.returns-in_err-read-clause-output
+returns-in_err-read-clause-output c =
+    after-refused (lent c.args.inputs) c.args.sample.now _ c.in_err-read.ensures c.args.direction
+    (λ z. omega (arith, z, number_positive c.in_err-read.field-0.0))
+
+pub returns-clause-answer : goal.returns-clause-answer
+returns-clause-answer c = inputs-answer (lent c.args.inputs) c.args.sample.now _ c.in_ok-read.ensures
+
+pub returns-clause-output : goal.returns-clause-output
+returns-clause-output c =
+    let of_bytes : OfBytes (lent c.args.inputs) = record { box = c.known_bytes.ensures; auxiliary = c.known_bytes-2.ensures } in
+    c.transform.ensures ∙ after_done (lent c.args.inputs) c.args.sample.now _ c.in_ok-read.ensures c.args.direction refl of_bytes

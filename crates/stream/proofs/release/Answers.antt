@@ -1,11 +1,9 @@
 use mathlib.Core.Path.{sym, ap, ◌∙◌}
-use Prim.Native.Nat.{◌+◌, ◌≤◌}
-use lib.ListN.{length}
 use lib.Seq.{length-take-le}
 use Rattle.scheme.specs.Machine.{Stepped}
 use Rattle.joined.proofs.Joining.{joined_full}
-use Rattle.stream_spec.specs.Stream.{state_of, due}
-use Rattle.stream_spec.proofs.Rules.{sound_rules, held_most, held_below}
+use Rattle.stream_spec.specs.Stream.{due}
+use Rattle.stream_spec.proofs.Rules.{held_most, held_below}
 use Rattle.stream_spec.proofs.Releasing.{Places, fed_is, released_progress}
 use borrow.Author.Rules.{rules}
 use native.Mathlib.Omega.{arith}
@@ -17,20 +15,16 @@ take_due-rest-requires c =
 
 pub overflow_sub-progress : goal.overflow_sub-progress
 overflow_sub-progress c =
-    omega (arith, held_below c.args.stream c.requires.0)
-
-pub overflow_add-result : goal.overflow_add-result
-overflow_add-result c =
-    record { fits = omega (arith, c.requires.1, (sound_rules c.args.stream c.requires.0).short) }
+    held_below c.args.stream c.requires.0
 
 pub returns : goal.returns
 unfolding due
 returns c =
-    let places : Places c.args.stream = record { held = search rules; clear = search rules; protected = search rules } in
-    let full : (let g = c.args.stream.progress in length c.args.out.now ≤ length (state_of g).held + length c.args.piece.now) = let t = c.args.stream in let l = length-take-le t.progress.held_count t.progress.held (omega (arith, held_most t c.requires.0, places.held)) in omega (arith, c.requires.3, l) in
     let t = c.args.stream in
     let piece = c.args.piece.now in
-    let e = rw c.requires.3 at (c.take_due-rest.ensures.1 ∙ joined_full _ _ _ full) in
+    let places : Places t = record { held = search rules; entries = search rules } in
+    let l = length-take-le t.progress.held_count t.progress.held (omega (arith, held_most t c.requires.0, places.held)) in
+    let e = rw c.requires.3 at (c.take_due-rest.ensures.1 ∙ joined_full _ _ _ (omega (arith, c.requires.3, l))) in
     let f = rw e at c.transform-next.ensures in (
       released_progress t c.requires.0 places piece c.requires.1 _ _ _ f.1 (rw c.requires.3 at c.take_due-rest.ensures.0) c.requires.2,
       f.0 ∙ sym (ap (λ (f : Stepped). f.released) (fed_is t c.requires.0 places piece c.requires.1)),

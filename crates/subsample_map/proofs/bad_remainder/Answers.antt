@@ -1,15 +1,22 @@
-use mathlib.Core.Bool.{true, false}
-use mathlib.Core.Path.{◌≡◌, sym, ◌∙◌}
+use mathlib.Core.Bool.{not, true, false}
+use Prim.Native.Nat.{◌%◌}
+use lib.Dec.{eqb}
+use Rattle.std.proofs.Common.{sym, ◌∙◌, ◌≡◌}
 use Rattle.octets.specs.Bytes.{same}
+use Rattle.octets.proofs.Equal.{eq-same}
 use Rattle.track_spec.specs.Track.{cbc1}
+use Rattle.subsample_spec.specs.declared.Entry.{Entry}
+use Rattle.subsample_spec.proofs.Counting.{some_used}
 use Rattle.subsample_map.proofs.bad_remainder.Goals as goal
 
-pub returns-then-same : goal.returns-then-same
-returns-then-same c =
-    let is_cbc1 : same c.args.code cbc1 ≡ true = sym c.same.ensures ∙ c.if-same.true in
-    rw (is_cbc1, c.some_ragged.ensures)
+pub returns-then-eq : goal.returns-then-eq
+returns-then-eq c =
+    let e : same c.args.code cbc1 ≡ true = sym (eq-same c.args.code cbc1) ∙ sym c.eq.ensures ∙ c.if-eq.true in
+    rw e
+    (c.some_ragged.ensures
+    ∙ some_used c.args.map.now c.used.result.now c.used.ensures.first c.used.ensures.size c.requires (λ (e : Entry). not (eqb (e.protected % 16) 0)))
 
-pub returns : goal.returns
-returns c =
-    let is_not_cbc1 : same c.args.code cbc1 ≡ false = sym c.same.ensures ∙ c.if-same.false in
-    rw is_not_cbc1
+pub returns-else-eq : goal.returns-else-eq
+returns-else-eq c =
+    let e : same c.args.code cbc1 ≡ false = sym (eq-same c.args.code cbc1) ∙ sym c.eq.ensures ∙ c.if-eq.false in
+    rw e c.if-eq.false

@@ -1,21 +1,22 @@
-use borrow.Author.Count.{below_more}
+use mathlib.Core.Path.{◌≡◌, sym, ◌∙◌}
+use Rattle.std.proofs.Common.{rules, tests}
+use Rattle.std.specs.Option.{is_some}
+use Rattle.std.proofs.lemmas.Iterator.{YieldsList-from_slice}
+use Rattle.std.proofs.lemmas.Iterator.Search.{all_from_yields_List}
 use Rattle.text.specs.Text as spec
-use Rattle.text.proofs.Digits.{below_not, below_all}
-use native.Mathlib.Omega.{arith}
+use Rattle.text.proofs.Digits.{all-digits}
 use Rattle.text.proofs.is_hex.Goals as goal
 
-pub returns-then-value-gt15 : goal.returns-then-value-gt15
+pub returns-then-all : goal.returns-then-all
 unfolding spec.is_hex
-returns-then-value-gt15 c =
-    let word = c.args.word.now in
-    rw (below_not 16 word c.loop-i.i (omega arith) (omega (arith, c.value.ensures)))
+returns-then-all c =
+    let w = c.args.word.now in
+    let e : c.all.result ≡ spec.digits_below 16 w = all_from_yields_List (λ x. is_some (spec.value x)) _ _ _ c.all.ensures.ran (YieldsList-from_slice w cc) (λ x b q k. search (rules, tests)) ∙ all-digits w in
+    rw (sym e ∙ c.if-all.true)
 
-pub loop-i-preserved : goal.loop-i-preserved
-loop-i-preserved c = (omega arith, below_more _ _ c.loop-i.invariant.1 (omega (arith, c.value.ensures)))
-
-pub returns : goal.returns
+pub returns-else-all : goal.returns-else-all
 unfolding spec.is_hex
-returns c =
-    let word = c.args.word.now in
-    let l = c.loop-i in
-    rw (below_all 16 word (λ k h. l.invariant.1 k (omega arith)))
+returns-else-all c =
+    let w = c.args.word.now in
+    let e : c.all.result ≡ spec.digits_below 16 w = all_from_yields_List (λ x. is_some (spec.value x)) _ _ _ c.all.ensures.ran (YieldsList-from_slice w cc) (λ x b q k. search (rules, tests)) ∙ all-digits w in
+    rw (sym e ∙ c.if-all.false) c.if-all.false

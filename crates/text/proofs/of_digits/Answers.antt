@@ -1,53 +1,81 @@
+use mathlib.Core.Bool.{Bool, true, false, cond}
 use mathlib.Core.List.{[]}
-use mathlib.Core.Path.{◌≡◌, refl, sym, ◌∙◌}
-use Prim.Native.Nat.{◌+◌, ◌*◌}
+use mathlib.Core.Path.{◌≡◌, refl, sym, ap, ◌∙◌}
+use Prim.Native.Nat.{ℕ, ◌+◌, ◌*◌, ◌≤◌}
+use lib.Dec.{leb}
 use lib.ListN.{get_or, drop, drop_of_length-le}
 use borrow.Author.Count.{below_more}
+use borrow.Author.Tests.{leb-true}
+use Rattle.std.specs.Bool.{then_some}
+use Rattle.std.specs.Option.{unwrap_or, IfSome}
 use Rattle.text.specs.Text as spec
-use Rattle.text.proofs.Digits.{below_not, below_all, from_grows, from_next, digits_good, digits_not, digits_above}
+use Rattle.text.proofs.Digits.{below_not, below_all, no_value, some_below, some_not, from_grows, from_next, digits_not, digits_above}
 use native.Mathlib.Omega.{arith}
+use Rattle.std.proofs.Common.{rules, Some, None}
 use Rattle.text.proofs.of_digits.Goals as goal
 
-pub loop-i-init : goal.loop-i-init
-loop-i-init c = (omega arith, omega arith, (λ k h. omega arith), refl)
+chosen : (t : Bool) (n : ℕ) → then_some t n ≡ cond t (Some n) None
+chosen true n = refl
+chosen false n = refl
+
+within : (n largest : ℕ) (t : Bool) → leb n largest ≡ t → IfSome (cond t (Some n) None) (λ v. v ≤ largest)
+within n largest true q = leb-true n largest q
+within n largest false q = tt
+
+pub returns-in_err-d : goal.returns-in_err-d
+returns-in_err-d c =
+    let a = c.args in
+    let n : spec.of_digits a.word.now a.largest ≡ None = digits_not a.word.now a.largest (below_not 10 a.word.now c.loop-c.c-index (omega arith) (no_value 10 _ (sym c.value.ensures ∙ c.in_err-d.was))) in
+    rw n (c.from_residual.ensures, search rules)
 
 pub returns-then-d-gt9 : goal.returns-then-d-gt9
 returns-then-d-gt9 c =
     let a = c.args in
-    (sym (digits_not a.word.now a.largest (below_not 10 a.word.now c.loop-i.i (omega arith) (omega (arith, c.value-d.ensures)))), omega arith)
+    (sym (digits_not a.word.now a.largest (below_not 10 a.word.now c.loop-c.c-index (omega arith) (some_not 10 _ _ (sym c.value.ensures ∙ c.in_ok-d.was) (omega arith)))), tt)
 
-pub returns-then-largest-d : goal.returns-then-largest-d
-returns-then-largest-d c =
+pub returns-in_err-checked_mul : goal.returns-in_err-checked_mul
+returns-in_err-checked_mul c =
     let a = c.args in
-    let l = c.loop-i in
-    let next = l.sum * 10 + spec.value (get_or a.word.now l.i 0) in
-    let g = from_grows next (drop (l.i + 1) a.word.now) in
-    (sym (digits_above a.word.now a.largest (omega (arith, g, from_next l.sum a.word.now l.i (omega arith), l.invariant.3, c.value-d.ensures))), omega arith)
+    let l = c.loop-c in
+    let over = c.in_err-checked_mul.ensures in
+    let d = ap (λ o. unwrap_or o 0) (sym c.value.ensures ∙ c.in_ok-d.was) in
+    let g = from_grows (l.sum * 10 + spec.worth (get_or a.word.now l.c-index 0)) (drop (l.c-index + 1) a.word.now) in
+    let f = from_next l.sum a.word.now l.c-index (omega arith) in
+    let n : spec.of_digits a.word.now a.largest ≡ None = digits_above a.word.now a.largest (omega (arith, over, g, f, l.invariant.1)) in
+    rw n (c.from_residual-in_err-checked_mul.ensures, search rules)
 
-pub returns-then-largest-d-2 : goal.returns-then-largest-d-2
-returns-then-largest-d-2 c =
+pub returns-in_err-sum : goal.returns-in_err-sum
+returns-in_err-sum c =
     let a = c.args in
-    let l = c.loop-i in
-    let next = l.sum * 10 + spec.value (get_or a.word.now l.i 0) in
-    let g = from_grows next (drop (l.i + 1) a.word.now) in
-    (sym (digits_above a.word.now a.largest (omega (arith, g, from_next l.sum a.word.now l.i (omega arith), l.invariant.3, c.value-d.ensures))), omega arith)
+    let l = c.loop-c in
+    let over = c.in_err-sum.ensures in
+    let product = c.in_ok-checked_mul.ensures in
+    let d = ap (λ o. unwrap_or o 0) (sym c.value.ensures ∙ c.in_ok-d.was) in
+    let g = from_grows (l.sum * 10 + spec.worth (get_or a.word.now l.c-index 0)) (drop (l.c-index + 1) a.word.now) in
+    let f = from_next l.sum a.word.now l.c-index (omega arith) in
+    let n : spec.of_digits a.word.now a.largest ≡ None = digits_above a.word.now a.largest (omega (arith, over, product, d, g, f, c.from.ensures, l.invariant.1)) in
+    rw n (c.from_residual-in_err-sum.ensures, search rules)
 
-pub loop-i-preserved : goal.loop-i-preserved
-loop-i-preserved c =
+pub loop-c-preserved : goal.loop-c-preserved
+loop-c-preserved c =
     let a = c.args in
-    let l = c.loop-i in (
-      omega arith,
-      omega arith,
-      below_more _ _ l.invariant.2 (omega (arith, c.value-d.ensures)),
-      rw c.value-d.ensures (sym (from_next l.sum a.word.now l.i (omega arith)) ∙ l.invariant.3),
+    let l = c.loop-c in
+    let sum = c.in_ok-sum.ensures in
+    let product = c.in_ok-checked_mul.ensures in
+    let d = ap (λ o. unwrap_or o 0) (sym c.value.ensures ∙ c.in_ok-d.was) in
+    let e : c.in_ok-sum.sum ≡ l.sum * 10 + spec.worth (get_or a.word.now l.c-index 0) = omega (arith, sum, product, d, c.from.ensures) in (
+      below_more _ _ l.invariant.0 (some_below 10 _ _ (sym c.value.ensures ∙ c.in_ok-d.was) (omega arith)),
+      rw e (sym (from_next l.sum a.word.now l.c-index (omega arith)) ∙ l.invariant.1),
     )
 
 pub returns : goal.returns
-unfolding spec.decimal_from
+unfolding spec.decimal_from spec.of_digits
 returns c =
     let a = c.args in
     let word = a.word.now in
-    let l = c.loop-i in
-    let all : drop l.i word ≡ [] = drop_of_length-le word {i = l.i} (omega arith) in
-    let e : l.sum ≡ spec.decimal_from 0 word = rw all at l.invariant.3 in
-    (rw e (sym (digits_good word a.largest (below_all 10 word (λ k h. l.invariant.2 k (omega arith))) (omega (arith, e)))), omega arith)
+    let l = c.loop-c in
+    let all : drop l.c-index word ≡ [] = drop_of_length-le word {i = l.c-index} (omega arith) in
+    let e : l.sum ≡ spec.decimal_from 0 word = rw all at l.invariant.1 in
+    let g : spec.digits_below 10 word ≡ true = below_all 10 word (λ k h. l.invariant.0 k (omega arith)) in
+    let s : c.then_some.result ≡ cond (leb l.sum a.largest) (Some l.sum) None = c.then_some.ensures ∙ chosen (leb l.sum a.largest) l.sum in
+    (rw (g, ← e) s, rw s (within l.sum a.largest (leb l.sum a.largest) refl))

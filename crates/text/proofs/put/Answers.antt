@@ -1,20 +1,19 @@
-use mathlib.Core.Path.{sym}
+use mathlib.Core.Path.{refl, sym, ◌∙◌}
+use Prim.Native.Nat.{◌+◌, ◌≤◌, ◌<◌}
+use lib.ListN.{length}
+use borrow.Author.Tests.{leb-true, leb-false}
 use Rattle.octets.proofs.Bytes.{placed_not}
-use Rattle.text.proofs.Pairs.{end_fits, end_not}
-use native.Mathlib.Omega.{arith}
+use Rattle.text.proofs.Pairs.{end_fits, end_not, put_placed}
 use Rattle.text.proofs.put.Goals as goal
 
-pub returns-then-out-text : goal.returns-then-out-text
-returns-then-out-text c =
+pub returns-then-not-fits : goal.returns-then-not-fits
+returns-then-not-fits c =
     let a = c.args in
-    (sym (placed_not a.out.now a.at a.text.now (omega arith)), sym (end_not a.out.now a.at a.text.now (omega arith)))
-
-pub returns-then-out-text-2 : goal.returns-then-out-text-2
-returns-then-out-text-2 c =
-    let a = c.args in
-    (sym (placed_not a.out.now a.at a.text.now (omega arith)), sym (end_not a.out.now a.at a.text.now (omega arith)))
+    let l : length a.out.now < a.at + length a.text.now = leb-false _ _ (sym c.fits.ensures ∙ c.if-not-fits.true) in
+    (sym (placed_not a.out.now a.at a.text.now l), sym (end_not a.out.now a.at a.text.now l))
 
 pub returns : goal.returns
 returns c =
     let a = c.args in
-    (c.copy.ensures, sym (end_fits a.out.now a.at a.text.now (omega arith)))
+    let l : a.at + length a.text.now ≤ length a.out.now = leb-true _ _ (sym c.fits.ensures ∙ c.if-not-fits.false) in
+    (rw c.copy_from_slice.ensures.after (put_placed a.out.now a.at _ a.text.now refl l), sym (end_fits a.out.now a.at a.text.now l))

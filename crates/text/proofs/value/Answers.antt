@@ -1,5 +1,6 @@
-use mathlib.Core.Path.{◌≡◌, sym, ◌∙◌}
+use mathlib.Core.Path.{◌≡◌, sym, ap, ◌∙◌}
 use Prim.Native.Nat.{◌+◌, ◌-◌}
+use Rattle.std.proofs.Common.{Some}
 use Rattle.text.proofs.Digits.{value-decimal, value_letter, value_before, value_between, value-behind}
 use native.Mathlib.Omega.{arith}
 use Rattle.text.proofs.value.Goals as goal
@@ -11,7 +12,7 @@ pub returns-in-97-to-102 : goal.returns-in-97-to-102
 returns-in-97-to-102 c =
     let x = c.args.c in
     let e : x - 97 + 10 ≡ x - 87 = omega arith in
-    e ∙ sym (value_letter x (omega arith) (omega arith))
+    ap (λ v. Some v) e ∙ sym (value_letter x (omega arith) (omega arith))
 
 pub returns-in_default : goal.returns-in_default
 returns-in_default c = sym (value_before c.args.c (omega arith))

@@ -8,8 +8,8 @@ unfolding fields_from
 returns c =
     rw (
       c.constant.ensures,
-      c.kid.ensures,
-      c.four.ensures,
+      c.filled_at.ensures,
+      c.filled.ensures,
       c.byte_at-iv_size.ensures,
       c.byte_at-protected.ensures,
       c.byte_at-pattern.ensures,

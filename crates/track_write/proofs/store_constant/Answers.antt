@@ -11,4 +11,4 @@ pub returns : goal.returns
 returns c =
     let n : length c.args.iv.0 ≡ 16 = search rules in
     let e = placed-next c.args.out.now c.args.at (16 ∷ []) c.args.iv.0 (c.args.at + 1) refl (omega (arith, c.requires)) in
-    cc (c.copy-2.ensures, c.bytes.ensures, c.copy.ensures, e)
+    cc (c.copy-2.ensures, c.copy.ensures, e)

@@ -1,15 +1,12 @@
 use mathlib.Core.Path.{◌≡◌}
-use Prim.Native.Nat.{◌≤◌, ◌+◌, ◌*◌}
-use lib.ListN.{length}
-use Rattle.volume_spec.specs.Volume.{entries, adjoining}
+use Prim.Native.Nat.{◌≤◌}
+use lib.ListN.{drop}
+use Rattle.std.specs.Prelude.{map}
+use Rattle.volume_spec.specs.Volume.{adjoining}
+use Rattle.volume_valid.proofs.Index.{read}
 use Rattle.volume_valid.proofs.adjoins.Given as goal
 
 -- the entries that are left adjoin from where the last record ended
-abbrev pub invariant-loop-left : goal.invariant-loop-left
-invariant-loop-left l =
-    (l.at + l.left * 24 ≤ length l.volume)
-    × (l.end ≤ l.offset)
-    × (adjoining 0 (entries l.volume l.offset l.count) l.offset ≡ adjoining l.end (entries l.volume l.at l.left) l.offset)
-
-abbrev pub decreases-loop-left : goal.decreases-loop-left
-decreases-loop-left l = l.left
+abbrev pub invariant-loop-bytes : goal.invariant-loop-bytes
+invariant-loop-bytes l =
+    (l.end ≤ l.to) × (adjoining 0 (map read l.index) l.to ≡ adjoining l.end (map read (drop l.bytes-index l.index)) l.to)

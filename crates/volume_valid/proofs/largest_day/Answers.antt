@@ -1,23 +1,15 @@
-use mathlib.Core.Path.{◌≡◌, sym, ◌∙◌}
-use Rattle.volume_spec.specs.Volume.{entries, largest_day}
-use Rattle.volume_spec.proofs.Entries.{entries_first}
-use native.Mathlib.Omega.{arith}
+use Rattle.std.proofs.Common.{unwrap_or, ap, ◌∙◌, rules, tests}
+use Rattle.std.proofs.lemmas.Iterator.{YieldsList-from_slice, YieldsList-from_map}
+use Rattle.std.proofs.lemmas.Iterator.Consumers.{reduce_from_yields_List}
+use Rattle.std.proofs.lemmas.List.Folds.{max_of_map}
+use Rattle.volume_valid.proofs.Index.{read, largest_fold}
 use Rattle.volume_valid.proofs.largest_day.Goals as goal
 
-pub loop-left-init : goal.loop-left-init
-loop-left-init c = (omega arith, omega arith)
-
-pub loop-left-preserved : goal.loop-left-preserved
-unfolding largest_day
-loop-left-preserved c =
-    let v = c.args.volume.now in
-    let l = c.loop-left in
-    let first = entries_first v l.at l.left c.loop-left-test.true in
-    (omega arith, l.invariant.1 ∙ rw (first, ← c.read_entry-entry.ensures, c.later-largest.ensures) (omega arith))
-
 pub returns : goal.returns
-unfolding largest_day entries
 returns c =
-    let l = c.loop-left in
-    let z : l.left ≡ 0 = omega arith in
-    sym (l.invariant.1 ∙ rw z (omega arith))
+    let s = c.args.index.now in
+    c.unwrap_or.ensures
+    ∙ ap (λ o. unwrap_or o 0)
+    (reduce_from_yields_List _ c.map.result _ c.max.ensures.ran
+    (YieldsList-from_map _ (λ e. (read e).day) (YieldsList-from_slice s cc) c.map.ensures.closure (λ x b q k. search (rules, tests))))
+    ∙ max_of_map (λ e. (read e).day) s ∙ largest_fold s

@@ -3,4 +3,4 @@ use Rattle.aes.proofs.Block.decipher.Goals as goal
 
 pub returns : goal.returns
 returns c =
-    rw (decipher_is, c.store-out.ensures, c.inv_cipher.ensures, c.load.ensures)
+    rw (decipher_is, c.store.ensures, c.inv_cipher.ensures, c.load.ensures)

@@ -3,4 +3,4 @@ use Rattle.aes.proofs.Block.encipher.Goals as goal
 
 pub returns : goal.returns
 returns c =
-    rw (encipher_is, c.store-out.ensures, c.cipher.ensures, c.load.ensures)
+    rw (encipher_is, c.store.ensures, c.cipher.ensures, c.load.ensures)

@@ -1,11 +1,9 @@
+use Rattle.std.proofs.lemmas.List.{length-take-le}
 use Rattle.stream_spec.proofs.Feeding.{released_fits}
-use Rattle.std.proofs.Common.{arith}
+use Rattle.std.proofs.Common.{arith, ◌≤◌, length}
 use Rattle.feeder.proofs.feeding.feed_piece.Goals as goal
 
-pub slice_bounds-write_all-end : goal.slice_bounds-write_all-end
-slice_bounds-write_all-end g c =
-    let f = c.feed_lent-fed in
-    omega (arith, released_fits _ _ _ _ f.ensures.0, f.auto.out)
-
-pub returns : goal.returns
-returns g c = omega (arith, released_fits _ _ _ _ c.feed_lent-fed.ensures.0)
+pub slice_bounds-write_all-end-2 : goal.slice_bounds-write_all-end-2
+slice_bounds-write_all-end-2 g c =
+    let fits : c.in_ok-released.released ≤ length c.args.out.now = released_fits _ _ _ _ c.in_ok-released.ensures.answer in
+    omega (arith, length-take-le c.in_ok-released.released c.feed_in_place.new.out (omega (arith, fits, c.feed_in_place.auto.out)))

@@ -1,13 +1,9 @@
 use mathlib.Core.Path.{◌≡◌}
 use Prim.Native.Nat.{◌≤◌}
-use native.Mathlib.Nat.{mod-le}
 use native.Mathlib.Omega.{arith}
 use Rattle.scheme.specs.Layout.{period}
 use Rattle.scheme.proofs.Runs.{run_last, run_every, pattern_crypt, pattern_skip, in_both}
 use Rattle.part.proofs.runs.pattern_run.Goals as goal
-
-pub whole_run-requires : goal.whole_run-requires
-whole_run-requires c = c.requires.0
 
 pub returns-then-period-eq0 : goal.returns-then-period-eq0
 returns-then-period-eq0 c =
@@ -17,15 +13,12 @@ returns-then-period-eq0 c =
 pub returns-then-whole-o : goal.returns-then-whole-o
 returns-then-whole-o c = in_both _ _ _ _ _ (run_last _ _ _ c.requires.0 c.if-whole-o.true)
 
-pub overflow_sub-first : goal.overflow_sub-first
-overflow_sub-first c = mod-le _ _
-
 pub returns-then-nth-crypt : goal.returns-then-nth-crypt
 returns-then-nth-crypt c =
     let some : 1 ≤ period c.args.pattern = omega (arith, c.if-period-eq0.false) in
-    in_both _ _ _ _ _ (λ s h. pattern_crypt _ _ _ _ some c.if-whole-o.false s h c.if-nth-crypt.true c.least.ensures)
+    in_both _ _ _ _ _ (λ s h. pattern_crypt _ _ _ _ some c.if-whole-o.false s h c.if-nth-crypt.true c.min.ensures)
 
 pub returns-else-nth-crypt : goal.returns-else-nth-crypt
 returns-else-nth-crypt c =
     let some : 1 ≤ period c.args.pattern = omega (arith, c.if-period-eq0.false) in
-    in_both _ _ _ _ _ (λ s h. pattern_skip _ _ _ _ some c.if-whole-o.false s h c.if-nth-crypt.false c.least-else-nth-crypt.ensures)
+    in_both _ _ _ _ _ (λ s h. pattern_skip _ _ _ _ some c.if-whole-o.false s h c.if-nth-crypt.false c.min-else-nth-crypt.ensures)

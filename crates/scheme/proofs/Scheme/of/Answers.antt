@@ -1,19 +1,35 @@
 use mathlib.Core.Path.{sym, ◌∙◌}
+use Rattle.octets.proofs.Equal.{eq-same}
+use Rattle.track_spec.specs.Track.{cbc1, cens, cbcs}
 use Rattle.scheme.specs.Layout.{scheme_of}
 use Rattle.scheme.proofs.Scheme.of.Goals as goal
 
-pub returns-then-same : goal.returns-then-same
+pub returns-then-eq : goal.returns-then-eq
 unfolding scheme_of
-returns-then-same c = rw (sym c.same.ensures ∙ c.if-same.true)
+returns-then-eq c = rw (sym (c.eq.ensures ∙ eq-same c.args.code cbc1) ∙ c.if-eq.true)
 
-pub returns-then-same-2 : goal.returns-then-same-2
+pub returns-then-eq-2 : goal.returns-then-eq-2
 unfolding scheme_of
-returns-then-same-2 c = rw (sym c.same.ensures ∙ c.if-same.false, sym c.same-2.ensures ∙ c.if-same-2.true)
+returns-then-eq-2 c =
+    rw (
+      sym (c.eq.ensures ∙ eq-same c.args.code cbc1) ∙ c.if-eq.false,
+      sym (c.eq-else-eq.ensures ∙ eq-same c.args.code cens) ∙ c.if-eq-2.true,
+    )
 
-pub returns-then-same-3 : goal.returns-then-same-3
+pub returns-then-eq-3 : goal.returns-then-eq-3
 unfolding scheme_of
-returns-then-same-3 c = rw (sym c.same.ensures ∙ c.if-same.false, sym c.same-2.ensures ∙ c.if-same-2.false, sym c.same-3.ensures ∙ c.if-same-3.true)
+returns-then-eq-3 c =
+    rw (
+      sym (c.eq.ensures ∙ eq-same c.args.code cbc1) ∙ c.if-eq.false,
+      sym (c.eq-else-eq.ensures ∙ eq-same c.args.code cens) ∙ c.if-eq-2.false,
+      sym (c.eq-else-eq-2.ensures ∙ eq-same c.args.code cbcs) ∙ c.if-eq-3.true,
+    )
 
-pub returns : goal.returns
+pub returns-else-eq-3 : goal.returns-else-eq-3
 unfolding scheme_of
-returns c = rw (sym c.same.ensures ∙ c.if-same.false, sym c.same-2.ensures ∙ c.if-same-2.false, sym c.same-3.ensures ∙ c.if-same-3.false)
+returns-else-eq-3 c =
+    rw (
+      sym (c.eq.ensures ∙ eq-same c.args.code cbc1) ∙ c.if-eq.false,
+      sym (c.eq-else-eq.ensures ∙ eq-same c.args.code cens) ∙ c.if-eq-2.false,
+      sym (c.eq-else-eq-2.ensures ∙ eq-same c.args.code cbcs) ∙ c.if-eq-3.false,
+    )

@@ -1,4 +1,0 @@
-use Rattle.subsample.proofs.refused.Goals as goal
-
-pub returns : goal.returns
-returns c = rw (c.empty.ensures, c.new.ensures)

@@ -1,8 +1,0 @@
-use mathlib.Core.Path.{sym, ◌∙◌}
-use Rattle.track.proofs.constant.Goals as goal
-
-pub returns-then-has_constant : goal.returns-then-has_constant
-returns-then-has_constant c = rw (sym c.has_constant.ensures ∙ c.if-has_constant.true, c.new.ensures, c.sixteen_at.ensures)
-
-pub returns-else-has_constant : goal.returns-else-has_constant
-returns-else-has_constant c = rw (sym c.has_constant.ensures ∙ c.if-has_constant.false, c.new-else-has_constant.ensures)

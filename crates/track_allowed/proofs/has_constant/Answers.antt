@@ -1,8 +1,0 @@
-use borrow.Author.Tests.{eq-eqb, ne_eqb}
-use Rattle.track_allowed.proofs.has_constant.Goals as goal
-
-pub returns-then-protected-eq1 : goal.returns-then-protected-eq1
-returns-then-protected-eq1 c = rw (eq-eqb _ _ c.if-protected-eq1.true)
-
-pub returns-else-protected-eq1 : goal.returns-else-protected-eq1
-returns-else-protected-eq1 c = rw (ne_eqb _ _ c.if-protected-eq1.false)
