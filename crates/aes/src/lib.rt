@@ -58,6 +58,7 @@ impl Block {
     }
 }
 
+// The bytes as columns, and back. Written out, as FIPS 197 draws it: closures for the elements leave each index to be proved.
 fn load(b: [u8; Block::SIZE]) -> State
     ensures { result ≡ state.load b }
 {
@@ -114,7 +115,7 @@ fn shift_rows(s: State) -> State
     ]
 }
 
-// The first row of the matrix of MixColumns, by a column.
+// The first row of the matrix of MixColumns, by a column, whose bytes are handed in turned by one for each row.
 fn mix(a: u8, b: u8, c: u8, d: u8) -> u8
     ensures { result ≡ spec.row 2 3 1 1 a b c d }
 {
@@ -138,6 +139,7 @@ fn mix_columns(s: State) -> State
     ]
 }
 
+// Of columns, where the mode layers add blocks and slices. A line is as short as a closure here.
 fn add_word(w: [u8; 4], k: [u8; 4]) -> [u8; 4]
     ensures { result ≡ spec.add_word w k }
 {
@@ -166,8 +168,8 @@ fn cipher(keys: RoundKeys, s: State) -> State
 {
     let mut t = add_round_key(s, keys[0]);
     // A round's state gets a name first: the compiler refuses `t = round(t, ..)` at an array, here and below.
-    for i in 1..Key::ROUNDS {
-        let next = round(t, keys[i]);
+    for k in &keys[1..Key::ROUNDS] {
+        let next = round(t, *k);
         t = next;
     }
     add_round_key(shift_rows(sub_bytes(t, &SBOX)), keys[Key::ROUNDS])
@@ -203,15 +205,16 @@ fn key_expansion(key: [u8; Key::SIZE]) -> RoundKeys
     let mut k = load(key);
     let mut keys = [k; Key::ROUNDS + 1];
     let mut rcon: u8 = 1;
-    for i in 0..Key::ROUNDS {
+    for slot in keys[1..].iter_mut() {
         let next = next_key(k, rcon);
-        keys[i + 1] = next;
+        *slot = next;
         k = next;
         rcon = xtime(rcon);
     }
     keys
 }
 
+// The rows go the other way than in `shift_rows`, and FIPS 197 writes out both.
 fn inv_shift_rows(s: State) -> State
     ensures { result ≡ inverse.inv_shift_rows s }
 {
@@ -233,12 +236,15 @@ fn inv_mix(a: u8, b: u8, c: u8, d: u8) -> u8
     xtime(two) ^ (b ^ (c ^ d))
 }
 
+// Its row takes other steps than that of `mix_column`, so that one function for both would take the row as a closure, with clauses longer
+// than these lines.
 fn inv_mix_column(w: [u8; 4]) -> [u8; 4]
     ensures { result ≡ spec.matrix 14 11 13 9 w }
 {
     array::from_fn(|i| inv_mix(w[i], w[(i + 1) % 4], w[(i + 2) % 4], w[(i + 3) % 4]))
 }
 
+// The same of the four columns.
 fn inv_mix_columns(s: State) -> State
     ensures { result ≡ inverse.inv_mix_columns s }
 {
@@ -250,6 +256,7 @@ fn inv_mix_columns(s: State) -> State
     ]
 }
 
+// Not `round` with other tables: FIPS 197 has the steps of the inverse in another order.
 fn inv_round(s: State, k: State) -> State
     ensures { result ≡ inverse.inv_round s k }
 {
@@ -260,8 +267,8 @@ fn inv_cipher(keys: RoundKeys, s: State) -> State
     ensures { result ≡ inverse.inv_cipher keys s }
 {
     let mut t = add_round_key(s, keys[Key::ROUNDS]);
-    for i in (1..Key::ROUNDS).rev() {
-        let next = inv_round(t, keys[i]);
+    for k in keys[1..Key::ROUNDS].iter().rev() {
+        let next = inv_round(t, *k);
         t = next;
     }
     add_round_key(sub_bytes(inv_shift_rows(t), &INV_SBOX), keys[0])

@@ -25,6 +25,7 @@ fn inputs_of<'a>(
     }
 }
 
+// A call for each direction, as the header has it.
 #[unsafe(no_mangle)]
 pub extern "C" fn cenc_lock(
     scheme: &[u8],

@@ -13,7 +13,7 @@ fn transform<F: Fn(Block) -> Block>(f: F, data: &mut [u8])
     requires { F.IsAlwaysCallable f }
     ensures { (e : List ℕ → List ℕ) → ((b r : _) → F.post f b r → r.0 ≡ e b.0) → «data».new ≡ spec.ecb e «data».old }
 {
-    // By index: of what `chunks_exact_mut` lends, the library says only the length afterwards.
+    // By index: after a loop over `split_first_chunk_mut` or `as_chunks_mut` nothing is known of the bytes lent.
     for i in 0..data.len() / Block::SIZE {
         let at = i * Block::SIZE;
         let part = &mut data[at..at + Block::SIZE];
@@ -29,7 +29,7 @@ pub fn encipher(keys: RoundKeys, data: &mut [u8])
     transform(|b| b.encipher(keys), data);
 }
 
-// Every whole block deciphered.
+// Every whole block deciphered; a call for each direction, as the exports are.
 pub fn decipher(keys: RoundKeys, data: &mut [u8])
     ensures { «data».new ≡ spec.ecb (spec.block_function true keys) «data».old }
 {

@@ -6,7 +6,7 @@ use modes::Direction;
 use std::env::FillError;
 use std::rt::Env;
 
-// The place of each; the program's own name is at 0.
+// The place of each, as a number, since `arg` takes one; the program's own name is at 0.
 const WAY: usize = 1;
 
 pub const SCHEME: usize = 2;
@@ -28,7 +28,8 @@ const LENGTH: usize = 9;
 // Room for a word: no name of a file is as long.
 const ROOM: usize = 4096;
 
-// A word. One that is too long is cut, and still too long for a name.
+// A word: `arg` fills a slice and answers a length. One that is too long is cut, and still too long for a name; an absent one is as good
+// as an empty one.
 #[derive(Drop)]
 pub struct Word {
     text: [u8; ROOM],
@@ -79,7 +80,7 @@ fn is_last(env: &impl Env, place: usize) -> bool
     is_there(env, place) && !is_there(env, place + 1)
 }
 
-// `lock` or `open`.
+// `lock` or `open`. `replay` has the same match: to share three arms two programs would need a crate.
 fn direction(env: &impl Env) -> Option<Direction> {
     match Word::read(env, WAY).bytes() {
         b"lock" => Some(Direction::Lock),

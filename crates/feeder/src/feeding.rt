@@ -48,7 +48,8 @@ fn feed_piece(
     Ok(released)
 }
 
-// Reads a piece, shorter only at the end of the file, and feeds it; or ends the stream, and then there is no more.
+// Reads a piece, shorter only at the end of the file, and feeds it; or ends the stream, and then there is no more. The five loans one by
+// one: a structure of them would be taken apart at once.
 fn take_turn(
     stream: &mut Stream,
     piece: &mut [u8],

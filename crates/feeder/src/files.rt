@@ -91,7 +91,8 @@ pub(crate) fn create<R: Files>(rt: &R, name: &[u8]) -> io::Result<R::File> {
         .open(rt, path(name)?)
 }
 
-// Closes a file that was written, once its bytes have reached the device; answers whether they have.
+// Closes a file that was written, once its bytes have reached the device; answers whether they have. What failed was told, so a bool
+// is enough.
 pub(crate) fn finish<R: Files + Env + Print + Eprint>(rt: &R, file: R::File, name: &[u8]) -> bool {
     match file.sync_all() {
         Ok(()) => true,

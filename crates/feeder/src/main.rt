@@ -81,7 +81,8 @@ fn feed_through<R: Env + Print + Eprint>(
     }
 }
 
-// Feeds a stream into a new file. Answers whether all of it was written, has reached its device and was told.
+// Feeds a stream into a new file. Answers whether all of it was written, has reached its device and was told; what failed was told,
+// so a bool is enough.
 fn feed_file<R: Files + Env + Print + Eprint>(
     rt: &R,
     arguments: &Arguments,

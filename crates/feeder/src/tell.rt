@@ -24,7 +24,8 @@ impl Display for Name<'_> {
     }
 }
 
-// A failure's reason, in the system's words alone: without the number that std puts after them.
+// A failure's reason, in the system's words alone: without the number that std puts after them. `write!` into a slice tells no length, so
+// a zero byte ends it.
 fn reason<'a>(error: io::Error, text: &'a mut [u8; 256]) -> &'a str {
     let mut rest = &mut text[..];
     let _ = write!(rest, "{error}\0");
@@ -63,7 +64,7 @@ pub(crate) fn usage<R: Env + Print + Eprint>(rt: &R) {
     );
 }
 
-// `done N`; answers whether it was written.
+// `done N`; answers whether it was written. What failed was told, so a bool is enough.
 pub(crate) fn done<R: Env + Print + Eprint>(rt: &R, written: u64) -> bool {
     match line(rt, format_args!("done {written}")) {
         Ok(()) => true,

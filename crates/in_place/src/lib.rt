@@ -1,4 +1,5 @@
 // A stream whose record is changed where it lies: thin forms over a record that is lent.
+// Document 01 asks for both forms.
 #![tactic(auto)]
 
 ghost use Rattle.std.specs.Prelude.{◌≡◌, length};

@@ -40,14 +40,14 @@ fn joined(a: [u8; 8], b: [u8; 8]) -> [u8; StartVector::SIZE]
     out
 }
 
-// The start vector of a counter, filled out with zeros in size 8.
+// The start vector of an issuer's counter, filled out with zeros in size 8.
 #[tactic(auto, using(octets::proofs::BigEndian::big_endian), unfolding(issuer_spec::specs::Issuer::vector))]
-fn vector(size: IvSize, first: [u8; 8], counter: u64) -> StartVector
-    ensures { result.0 ≡ spec.vector size first counter }
+fn vector(issuer: Issuer) -> StartVector
+    ensures { result.0 ≡ spec.vector issuer.size issuer.first issuer.counter }
 {
-    match size {
-        IvSize::Eight => StartVector(joined(counter.to_be_bytes(), [0; 8])),
-        IvSize::Sixteen => StartVector(joined(first, counter.to_be_bytes())),
+    match issuer.size {
+        IvSize::Eight => StartVector(joined(issuer.counter.to_be_bytes(), [0; 8])),
+        IvSize::Sixteen => StartVector(joined(issuer.first, issuer.counter.to_be_bytes())),
     }
 }
 
@@ -98,7 +98,7 @@ pub fn grant(issuer: &mut Issuer, blocks: u64) -> Result<StartVector, Refusal>
     let Some(last) = issuer.counter.checked_add(past) else {
         return Err(Refusal::UsedUp);
     };
-    let granted = vector(issuer.size, issuer.first, issuer.counter);
+    let granted = vector(*issuer);
     *issuer = after(*issuer, last);
     Ok(granted)
 }

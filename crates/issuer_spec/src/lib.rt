@@ -12,6 +12,7 @@ pub enum IvSize {
 }
 
 // What is granted next: the counter and, in size 16, the eight bytes before it. Once the largest is covered, nothing.
+// The counter of an issuer that is used up stays, as `after` has it, so it is no Option.
 #[derive(Clone, Copy)]
 pub struct Issuer {
     pub size: IvSize,

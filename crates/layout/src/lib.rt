@@ -22,7 +22,8 @@ pub fn every_byte(scheme: Scheme) -> bool
     matches!(scheme, Scheme::Cenc)
 }
 
-// Whether the byte at an offset of a range of n bytes lies in a whole block that the pattern ciphers; 0:0 ciphers every one.
+// Whether the byte at an offset of a range of n bytes lies in a whole block that the pattern ciphers; 0:0 ciphers every one. Length and
+// offset as two numbers, as the definitions have them.
 fn in_pattern(pattern: Pattern, n: usize, o: usize) -> bool
     ensures { result ≡ in_whole_block n o && in_crypt_run pattern o }
 {
@@ -32,7 +33,7 @@ fn in_pattern(pattern: Pattern, n: usize, o: usize) -> bool
     block < n / ModeBlock::SIZE && (period == 0 || block % period < crypt)
 }
 
-// Whether the byte at an offset of a range of n bytes is ciphered.
+// Whether the byte at an offset of a range of n bytes is ciphered. The four one by one, as `is_ciphered` has them.
 pub fn ciphered_at(scheme: Scheme, pattern: Pattern, n: usize, o: usize) -> bool
     ensures { result ≡ is_ciphered scheme pattern n o }
 {
@@ -113,7 +114,8 @@ fn locate(map: SubsampleMap, length: usize, x: usize) -> Position
     locate_entry(map.used(), x)
 }
 
-// How many bytes of the key stream block are used at position x of a protected sample.
+// How many bytes of the key stream block are used at position x of a protected sample. Scheme and pattern, map and length one by one, here
+// and below, as `mask` and `protected_entries` take them.
 pub fn used_at(
     scheme: Scheme,
     pattern: Pattern,
@@ -143,7 +145,8 @@ fn held_in(scheme: Scheme, pattern: Pattern, map: SubsampleMap, length: usize, x
     }
 }
 
-// How many bytes are held at position x of a sample.
+// How many bytes are held at position x of a sample. Parameters, map and length are fields of several structures of the layers above, so
+// they are handed in one by one.
 pub fn held_at(parameters: Parameters, map: SubsampleMap, length: usize, x: usize) -> usize
     ensures { result ≡ held_under parameters map «length» x }
 {

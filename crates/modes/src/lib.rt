@@ -1,4 +1,5 @@
 // The counter mode and cipher block chaining over a part of a byte string in place (SP 800-38A, 6.5 and 6.2).
+// Round keys go by value, as document 01 has it.
 #![tactic(auto)]
 
 ghost use Rattle.std.specs.Prelude.{◌≡◌, ◌+◌, ◌/◌, ◌≤◌, length, drop};
@@ -51,7 +52,7 @@ pub fn ctr(keys: RoundKeys, counter: ModeBlock, used: usize, part: &mut [u8]) ->
     ModeBlock(b)
 }
 
-// Two blocks added.
+// Two blocks added. The block layer's addition is of its columns, and is its own.
 fn xor_blocks(a: [u8; Block::SIZE], b: [u8; Block::SIZE]) -> [u8; Block::SIZE]
     ensures { result ≡ spec.xors a b }
 {
@@ -104,7 +105,7 @@ pub fn cbc(keys: RoundKeys, direction: Direction, chain: ModeBlock, part: &mut [
         × (result.0 ≡ spec.chain_end (block.encipher keys) (block.decipher keys) direction chain.0 part.old) }
 {
     let mut c = chain.0;
-    // By index: of what `chunks_exact_mut` lends, the library says only the length afterwards.
+    // By index: after a loop over `split_first_chunk_mut` or `as_chunks_mut` nothing is known of the bytes lent.
     for i in 0..part.len() / Block::SIZE {
         let at = i * Block::SIZE;
         let next = chain_block(keys, direction, c, &mut part[at..at + Block::SIZE]);

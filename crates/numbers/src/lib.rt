@@ -1,5 +1,5 @@
-// Big-endian numbers in byte strings: read and written at a place. Each type has functions of its own, as std's `from_be_bytes` has: a
-// trait over them would have as many impls, with the same bodies.
+// Big-endian numbers in byte strings: read and written at a place. Each width has functions of its own, as std's `from_be_bytes` has one
+// for each type: a trait over them would have as many impls, with the same bodies. 24 bits, which std has not, go by `u32`.
 #![tactic(auto)]
 
 ghost use Rattle.std.specs.Prelude.{◌≡◌};
@@ -31,7 +31,7 @@ pub fn be64(s: &[u8], at: usize) -> u64
     u64::from_be_bytes(octets::filled_at(s, at))
 }
 
-// Writes a number from a place on, or nothing where it does not fit.
+// Writes a number from a place on, or nothing where it does not fit. The place beside the string, here and below, as `placed` has it.
 pub fn put16(n: u16, out: &mut [u8], at: usize)
     ensures { out.new ≡ placed out.old at (digits 2 n) }
 {

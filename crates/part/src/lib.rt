@@ -19,14 +19,15 @@ use subsample_spec::{Entry, SubsampleMap};
 use track_spec::Parameters;
 use walk::{Ciphering, Progress};
 
-// Whether `size` bytes from a position on lie below an end.
+// Whether `size` bytes from a position on lie below an end: positions of a sample, and not of a slice at hand.
 fn within(end: usize, from: usize, size: usize) -> bool
     ensures { result ≡ leb (from + size) end }
 {
     from <= end && size <= end - from
 }
 
-// Whether `size` bytes from a position of a protected sample on can be ciphered where they lie.
+// Whether `size` bytes from a position of a protected sample on can be ciphered where they lie. Parameters, map and length one by one, as
+// the definition takes them.
 #[tactic(auto, using(scheme::proofs::Fitting::fits_is))]
 fn fits(
     parameters: Parameters,
@@ -74,6 +75,7 @@ fn cipher_part(
 
 // Ciphers the bytes of a sample of some length from a position on where they lie, with the counter or chain block before them;
 // answers the block after them. Where they do not fit nothing changes.
+// What a stream declares is a structure of a layer above; round keys go by value, as document 01 has it.
 #[tactic(auto, using(scheme::proofs::Fitting::transformed_fits, scheme::proofs::Fitting::transformed_not, scheme::proofs::Fitting::transformed_clear))]
 pub fn transform(
     keys: RoundKeys,

@@ -26,7 +26,8 @@ pub(crate) fn restarts(scheme: Scheme, o: usize) -> bool
     }
 }
 
-// The run of whole blocks, or what is left after them.
+// The run of whole blocks, or what is left after them. A range's length and an offset as two numbers, here and below, as `RunAt` has
+// them; so scheme and pattern.
 fn whole_run(n: usize, o: usize) -> Run
     requires { o < n }
     ensures { (pattern : Pattern) → RunAt Cbc1 pattern n o result.ciphered result.end }

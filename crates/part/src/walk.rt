@@ -30,6 +30,7 @@ pub(crate) struct Progress {
 }
 
 // A run of ciphered bytes; answers the counter or chain block after it.
+// Whether the chain starts anew is said beside the block, as the clause has it.
 fn cipher_run(how: Ciphering<'_>, restart: bool, progress: Progress, part: &mut [u8]) -> ModeBlock
     requires { (progress.used < 16) × (mode_of how.scheme ≡ Chain → Blocks progress.used (length part.old)) }
     ensures { (fs : List Bool) → RestartsAt (mode_of how.entry.scheme) restart fs (length part.old)
@@ -79,7 +80,8 @@ fn range_part(
     now
 }
 
-// A part of an entry: of its clear bytes, and of its protected range of n bytes.
+// A part of an entry: of its clear bytes, and of its protected range of n bytes. The two lengths
+// as `EntryAsks` has them.
 fn entry_part(
     how: Ciphering<'_>,
     clear: usize,
@@ -102,7 +104,7 @@ fn entry_part(
     )
 }
 
-// A part of a sample, from a position on, under its entries.
+// A part of a sample, from a position on, under its entries. Place and offset are moved along: a piece ends where the part ends, too.
 pub(crate) fn sample_part(
     how: Ciphering<'_>,
     entries: &[Entry],

@@ -10,7 +10,7 @@ use modes::Direction;
 use sample::Inputs;
 use stream::{Refusal, Stream};
 
-// Feeds a record by value, or one that is changed where it lies: C says which by a bool.
+// Feeds a record by value, or one that is changed where it lies: C says which by a bool, to time the one beside the other.
 fn feed(in_place: bool, stream: &mut Stream, piece: &[u8], out: &mut [u8]) -> Result<usize, Refusal>
     ensures answer { streams.as_fed_in_place result stream.new ≡ streams.feed stream.old piece.now (length out.old) }
     ensures output { out.new ≡ streams.output_after stream.old piece.now out.old }

@@ -67,7 +67,7 @@ impl Call {
         line::has_words(line, letters, more).then_some(call)
     }
 
-    // Answers it. What it writes goes to `lent`.
+    // Answers it. What it writes goes to `lent`. The four are handed on one by one: no call takes them all.
     fn run(
         self,
         to: &impl Print,
@@ -93,7 +93,7 @@ impl Call {
     }
 }
 
-// Answers a line, and tells whether it is a call; it is malformed if not.
+// Answers a line, and tells whether it is a call; it is malformed if not, and its answer says so, so a bool is enough.
 pub(crate) fn answer(to: &impl Print, line: &[u8], out: &mut Output) -> bool {
     let Some(call) = Call::read(line) else {
         out.text(b"malformed");

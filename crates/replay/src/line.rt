@@ -7,7 +7,7 @@ use subsample::SubsampleMap;
 // The most bytes that a line lends for output.
 pub const ROOM: u64 = 65536;
 
-// The direction that a word names.
+// The direction that a word names. `feeder` has the same match: to share three arms two programs would need a crate.
 fn direction(word: &[u8]) -> Option<Direction> {
     match word {
         b"lock" => Some(Direction::Lock),
@@ -16,7 +16,7 @@ fn direction(word: &[u8]) -> Option<Direction> {
     }
 }
 
-// A letter says what a word holds:
+// A letter says what a word holds. Letters, since a line's list of them is a text; an enum of the kinds would be as long again:
 // `b` bytes, `f` four of them, `s` sixteen; `n` a number, `o` one of 8 bits, `h` of 16, `w` of 32, `r` of bytes lent; `d` a direction.
 fn is_simple(letter: u8, word: &[u8]) -> bool {
     match letter {
@@ -75,10 +75,11 @@ pub(crate) fn has_words(line: &[u8], letters: &[u8], more: Option<u8>) -> bool {
 // As many bytes as a line can hold.
 pub const BYTES: usize = 131072;
 
-// How many words of a line may hold bytes, its name and its list at the end left out.
+// How many words of a line may hold bytes, its name among them and its list at the end left out.
 const WORDS: usize = 17;
 
-// A line, the bytes of its first words one after the other, and where those of each word start.
+// A line, the bytes of its first words one after the other, and where those of each word start: slices of a buffer that is still being
+// filled cannot be held beside it.
 #[derive(Clone, Copy)]
 pub struct Words<'a> {
     line: &'a [u8],

@@ -11,35 +11,28 @@ mod streams;
 mod track_boxes;
 mod volumes;
 
-ghost use Rattle.std.specs.Prelude.{◌≤◌};
-
+use arrayvec::ArrayVec;
 use output::Output;
 use std::io::Read;
 
 // The longest line, without its newline.
 const LONGEST: usize = 262144;
 
-// What has come of a line. Of one that is too long no more is held.
+// What has come of a line. Of one that is too long no more is held; its room stays for the next, so the flag stands beside it.
 #[derive(Drop)]
 struct Held {
-    text: [u8; LONGEST],
-    length: usize,
+    text: ArrayVec<u8, LONGEST>,
     too_long: bool,
-    ghost within: { length ≤ 262144 },
 }
 
 impl Held {
     fn is_empty(&self) -> bool {
-        self.length == 0 && !self.too_long
+        self.text.is_empty() && !self.too_long
     }
 
     fn add(&mut self, piece: &[u8]) {
-        if LONGEST - self.length < piece.len() {
+        if self.text.try_extend_from_slice(piece).is_err() {
             self.too_long = true;
-        } else {
-            let end = self.length + piece.len();
-            self.text[self.length..end].copy_from_slice(piece);
-            self.length = end;
         }
     }
 
@@ -48,12 +41,12 @@ impl Held {
         if self.too_long {
             &[]
         } else {
-            &self.text[..self.length]
+            self.text.as_slice()
         }
     }
 
     fn clear(&mut self) {
-        self.length = 0;
+        self.text.clear();
         self.too_long = false;
     }
 }
@@ -75,8 +68,7 @@ impl Replay {
     fn new() -> Replay {
         Replay {
             held: Held {
-                text: [0; LONGEST],
-                length: 0,
+                text: ArrayVec::new(),
                 too_long: false,
             },
             out: Output::new(),
@@ -110,7 +102,8 @@ impl Replay {
         self.out.flush(to);
     }
 
-    // Reads the input once; answers whether there may be more. A line that is cut off by a failure is not answered.
+    // Reads the input once; answers whether there may be more: a failure was told, so a bool is enough. A line that is cut off by a
+    // failure is not answered.
     fn take_turn(&mut self, rt: &(impl Print + Eprint), input: &mut impl Read) -> bool {
         let mut piece = [0u8; 65536];
         match input.read(&mut piece) {

@@ -1,27 +1,24 @@
 // The text of the answers, gathered until it is written out.
-ghost use Rattle.std.specs.Prelude.{◌≤◌};
-
 use crate::line;
+use arrayvec::ArrayVec;
 use itoa::Buffer as Digits;
 use refusals::Refusal;
 
 // Room for two of the longest answers or replies.
 const SIZE: usize = 1048576;
 
-// How much of the buffer is text, and whether writing has failed: then no more is written. What does not fit is left out.
+// The text, and whether writing has failed: then no more is written. What does not fit is left out. The buffer stays after a failure,
+// so the flag stands beside it.
 #[derive(Drop)]
 pub struct Output {
-    buffer: [u8; SIZE],
-    end: usize,
+    buffer: ArrayVec<u8, SIZE>,
     failed: bool,
-    ghost within: { end ≤ 1048576 },
 }
 
 impl Output {
     pub(crate) fn new() -> Output {
         Output {
-            buffer: [0; SIZE],
-            end: 0,
+            buffer: ArrayVec::new(),
             failed: false,
         }
     }
@@ -33,20 +30,20 @@ impl Output {
     // Writes the text out.
     pub(crate) fn flush(&mut self, to: &impl Print) {
         if !self.failed {
-            self.failed = to.write_all(&self.buffer[..self.end]).is_err();
+            self.failed = to.write_all(self.buffer.as_slice()).is_err();
         }
-        self.end = 0;
+        self.buffer.clear();
     }
 
     // Writes the text out if half of the buffer is full.
     pub(crate) fn make_room(&mut self, to: &impl Print) {
-        if SIZE / 2 < self.end {
+        if SIZE / 2 < self.buffer.len() {
             self.flush(to);
         }
     }
 
     pub(crate) fn text(&mut self, text: &[u8]) {
-        self.end = text::put(text, &mut self.buffer, self.end);
+        let _ = self.buffer.try_extend_from_slice(text);
     }
 
     pub(crate) fn byte(&mut self, b: u8) {
@@ -59,15 +56,23 @@ impl Output {
         self.text(digits.format(n).as_bytes());
     }
 
-    // A number, and a byte after it.
+    // A number, and a byte after it, as most lines part their words; so below bytes and an answer. One for all three would take a closure.
     pub(crate) fn number_then(&mut self, n: u64, b: u8) {
         self.number(n);
         self.byte(b);
     }
 
-    // Bytes as a word.
+    // Bytes as a word, byte by byte: `put_hex` wants a slice to write to, and an `ArrayVec` lends none behind its text.
     pub(crate) fn hex(&mut self, s: &[u8]) {
-        self.end = text::put_hex(s, &mut self.buffer, self.end);
+        if s.is_empty() {
+            self.byte(b'-');
+        } else if s.len() <= self.buffer.remaining_capacity() / 2 {
+            for b in s {
+                let mut digits = [0u8; 2];
+                text::put_hex(&[*b], &mut digits, 0);
+                self.text(&digits);
+            }
+        }
     }
 
     // Bytes, and a byte after them.

@@ -75,6 +75,7 @@ pub(crate) fn inputs(words: Words<'_>, first: usize) -> Inputs<'_>
     }
 }
 
+// By direction: the library has a call for each.
 fn transform(direction: Direction, inputs: Inputs, sample: &mut [u8]) -> Result<(), Refusal> {
     match direction {
         Direction::Lock => sample::lock(inputs, sample),

@@ -75,7 +75,8 @@ fn reply(
     feed(stream, line::part(piece, 0, length), &mut lent[..room], out)
 }
 
-// The reply to each word of a line from one on, then the record.
+// The reply to each word of a line from one on, then the record. The lines of issuers have such a loop too; one for both would take a
+// closure over three buffers.
 fn replies(
     to: &impl Print,
     start: Stream,

@@ -23,7 +23,8 @@ pub(crate) fn read(words: Words<'_>, out: &mut Output) {
     put_parameters(read.unwrap_or(Parameters::unprotected()), out);
 }
 
-// Parameters whose last words are PROTECTED, IVSIZE, KID and CONSTANT, the words 5 to 8 of a line.
+// Parameters whose last words are PROTECTED, IVSIZE, KID and CONSTANT, the words 5 to 8 of a line. The others stand in two lines at
+// different places, so they are handed in.
 pub(crate) fn parameters(
     words: Words<'_>,
     code: &[u8],

@@ -12,7 +12,7 @@ ghost use Rattle.sample_spec.specs.Sample as spec;
 use aes::Key;
 use modes::Direction;
 pub use refusals::Refusal;
-pub use sample_spec::{Inputs, InputsRead, KEY_RECORD};
+pub use sample_spec::{Inputs, InputsRead, KEY_RECORD_SIZE};
 use track::{Kid, Parameters};
 
 // The key for some parameters in a key record of KID and key: 5 and 6. That of an unprotected track is zero.
@@ -23,7 +23,7 @@ pub fn find_key(parameters: Parameters, key_record: &[u8]) -> Result<Key, Refusa
     if parameters.protected != 1 {
         return Ok(Key([0; Key::SIZE]));
     }
-    if key_record.len() != KEY_RECORD {
+    if key_record.len() != KEY_RECORD_SIZE {
         return Err(Refusal::KeyRecord);
     }
     let (kid, key) = key_record.split_at(Kid::SIZE);
@@ -82,7 +82,7 @@ fn process(direction: Direction, inputs: Inputs, sample: &mut [u8]) -> Result<()
     Ok(())
 }
 
-// Locks a sample where it lies.
+// Locks a sample where it lies. Both are one line over `process`, and callers name the direction by them.
 pub fn lock(inputs: Inputs, sample: &mut [u8]) -> Result<(), Refusal>
     ensures answer { answer_of result ≡ answer (spec.sample_rows (spec.lent inputs.entry) (length sample.old)) }
     ensures output { sample.new ≡ spec.sample_after Lock (spec.lent inputs.entry) sample.old }
@@ -90,7 +90,7 @@ pub fn lock(inputs: Inputs, sample: &mut [u8]) -> Result<(), Refusal>
     process(Direction::Lock, inputs, sample)
 }
 
-// Opens a sample where it lies.
+// Opens a sample where it lies. Both are one line over `process`, and callers name the direction by them.
 pub fn open(inputs: Inputs, sample: &mut [u8]) -> Result<(), Refusal>
     ensures answer { answer_of result ≡ answer (spec.sample_rows (spec.lent inputs.entry) (length sample.old)) }
     ensures output { sample.new ≡ spec.sample_after Open (spec.lent inputs.entry) sample.old }

@@ -7,7 +7,7 @@ use subsample_spec::SubsampleMap;
 use track_spec::{Parameters, StartVector};
 
 // The bytes of a key record: the KID, then the key.
-pub const KEY_RECORD: usize = 32;
+pub const KEY_RECORD_SIZE: usize = 32;
 
 // What a caller hands in for a sample: the scheme's code, the track box, the auxiliary data and the key record.
 #[derive(Clone, Copy)]

@@ -31,7 +31,7 @@ pub enum Mode {
     Chain,
 }
 
-// The pattern of a track, in blocks: so many are ciphered, then so many are not, and so on.
+// The pattern of a track, in blocks: so many are ciphered, then so many are not, and so on. 0:0 is none, as a box writes it.
 #[derive(Clone, Copy)]
 pub struct Pattern {
     pub crypt: u8,
@@ -40,6 +40,7 @@ pub struct Pattern {
 
 impl Scheme {
     // The scheme that a code names; cenc for a code that names none.
+    // By `==`: the arms of a `match` on byte strings would tell a proof the length alone.
     pub fn of(code: [u8; 4]) -> Scheme
         ensures { result ≡ spec.scheme_of code }
     {

@@ -1,12 +1,14 @@
 // A scheme code and then a box on standard input, told in lines (document 01, "The sheet program").
 #![tactic(auto)]
 
-ghost use Rattle.std.specs.Prelude.{List, ℕ, [], ◌≡◌, ◌++◌, ◌+◌, ◌≤◌, length, take};
+ghost use Rattle.std.specs.Prelude.{List, ℕ, [], ◌≡◌, ◌++◌, ◌+◌, ◌≤◌, length};
 ghost use Rattle.text.specs.Text.{decimal};
 ghost use Rattle.refusals.specs.Refusals.{refusal_number};
 ghost use Rattle.track_spec.specs.Track.{has_constant, as_box_read};
 ghost use Rattle.sheet.specs.Sheet as spec;
 
+use arrayvec::ArrayVec;
+use itoa::Buffer as Digits;
 use std::io::Read;
 use std::marker::Model;
 use track::{Parameters, Refusal};
@@ -17,17 +19,14 @@ const MAX_INPUT: usize = 4096;
 // The text written so far. A sheet has at most 140 bytes.
 #[derive(Drop)]
 struct Page {
-    bytes: [u8; 160],
-    end: usize,
+    bytes: ArrayVec<u8, 160>,
 }
 
 // Clauses see the text.
 impl Model for Page {
     ghost Value = { List ℕ };
 
-    ghost view = { λ p. take p.end p.bytes };
-
-    ghost invariant = { λ p. p.end ≤ 160 };
+    ghost view = { λ p. p.bytes.items };
 }
 
 impl Page {
@@ -35,8 +34,7 @@ impl Page {
         ensures { result ≡ [] }
     {
         Page {
-            bytes: [0; 160],
-            end: 0,
+            bytes: ArrayVec::new(),
         }
     }
 
@@ -44,28 +42,17 @@ impl Page {
         requires { length self.old + length text.now ≤ 160 }
         ensures { self.new ≡ self.old ++ text.now }
     {
-        let end = self.end + text.len();
-        self.bytes[self.end..end].copy_from_slice(text);
-        self.end = end;
+        let _ = self.bytes.try_extend_from_slice(text);
     }
 
     // A number, without leading zeros.
-    #[tactic(auto, unfolding(text::specs::Text::decimal))]
+    #[tactic(auto, using(crate::proofs::Texts::decimals))]
     fn decimal(&mut self, n: u8)
         requires { length self.old + 3 ≤ 160 }
         ensures { self.new ≡ self.old ++ decimal n }
     {
-        if n < 10 {
-            self.text(&[text::digit(n)]);
-        } else if n < 100 {
-            self.text(&[text::digit(n / 10), text::digit(n % 10)]);
-        } else {
-            self.text(&[
-                text::digit(n / 100),
-                text::digit(n / 10 % 10),
-                text::digit(n % 10),
-            ]);
-        }
+        let mut digits = Digits::new();
+        self.text(digits.format(n).as_bytes());
     }
 
     // A name, a value and a newline.
@@ -88,7 +75,7 @@ impl Page {
         self.text(b"\n");
     }
 
-    // The crypt and the skip count.
+    // The crypt and the skip count, as `pattern_line` of specs has them.
     #[tactic(auto, using(crate::proofs::Texts::lengths), unfolding(crate::specs::Sheet::pattern_line))]
     fn pattern_line(&mut self, crypt: u8, skip: u8)
         requires { length self.old + 16 ≤ 160 }
@@ -117,7 +104,7 @@ impl Page {
     fn written(&self) -> &[u8]
         ensures { result.now ≡ self.now }
     {
-        &self.bytes[..self.end]
+        self.bytes.as_slice()
     }
 }
 
@@ -174,7 +161,8 @@ fn render(input: &[u8]) -> Page
 }
 
 // Reads until the buffer is full or the input ends, and answers how many bytes it put at the buffer's start. A read error counts
-// as the end of the input.
+// as the end of the input, and what was read before it counts, which `fill` of feeder does not say. A `while`: each reading says
+// how far it came.
 fn read_full(input: &mut impl Read, buffer: &mut [u8]) -> usize
     ensures { result ≤ length buffer.new }
 {

@@ -20,14 +20,14 @@ pub fn start(direction: Direction, inputs: Inputs, sample_length: usize) -> Resu
     ensures { spec.as_started result ≡ spec.start direction (lent inputs.entry) sample_length }
 {
     let read = sample::read_inputs(inputs, sample_length)?;
-    Ok(Stream::begun(
+    let declared = Declared {
         direction,
-        read.parameters,
-        sample_length,
-        read.map,
-        read.key,
-        read.iv,
-    ))
+        parameters: read.parameters,
+        length: sample_length,
+        map: read.map,
+        key: read.key,
+    };
+    Ok(Stream::begun(declared, read.iv))
 }
 
 // Whether what was declared keeps its rules; no entries if unprotected.

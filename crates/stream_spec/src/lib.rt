@@ -20,6 +20,7 @@ pub struct Declared {
 }
 
 // How far a stream has come: the position, the counter or chain block, and the bytes held.
+// A count that breaks the rules can be said, and is refused as 13.
 #[derive(Clone, Copy)]
 pub struct Progress {
     pub position: usize,
@@ -54,24 +55,11 @@ impl Stream {
     pub const MOST_HELD: usize = Block::SIZE - 1;
 
     // The record of an accepted start.
-    pub fn begun(
-        direction: Direction,
-        parameters: Parameters,
-        length: usize,
-        map: SubsampleMap,
-        key: Key,
-        iv: StartVector,
-    ) -> Stream
-        ensures { result ≡ spec.begun_with (record { direction = direction; parameters = parameters; length = «length»; map = map; key = key }) iv.0 }
+    pub fn begun(declared: Declared, iv: StartVector) -> Stream
+        ensures { result ≡ spec.begun_with declared iv.0 }
     {
         Stream {
-            declared: Declared {
-                direction,
-                parameters,
-                length,
-                map,
-                key,
-            },
+            declared,
             progress: Progress::begun(scheme::first_block(iv)),
         }
     }
@@ -80,14 +68,14 @@ impl Stream {
     pub fn idle() -> Stream
         ensures { result ≡ spec.idle }
     {
-        Stream::begun(
-            Direction::Open,
-            Parameters::unprotected(),
-            0,
-            SubsampleMap::empty(),
-            Key([0; Key::SIZE]),
-            StartVector([0; StartVector::SIZE]),
-        )
+        let declared = Declared {
+            direction: Direction::Open,
+            parameters: Parameters::unprotected(),
+            length: 0,
+            map: SubsampleMap::empty(),
+            key: Key([0; Key::SIZE]),
+        };
+        Stream::begun(declared, StartVector([0; StartVector::SIZE]))
     }
 }
 

@@ -58,15 +58,16 @@ fn read_map(p: Parameters, count: usize, auxiliary: &[u8]) -> SubsampleMap
     ensures { result ≡ spec.map_read p auxiliary.now }
 {
     let iv = p.iv_size as usize;
-    let mut map = SubsampleMap::empty();
-    map.count = count;
-    for i in 0..count {
-        map.entries[i] = Entry {
+    let empty = SubsampleMap::empty();
+    // By itself: of what `iter_mut` writes in a field nothing is known.
+    let mut entries = empty.entries;
+    for (i, slot) in entries[..count].iter_mut().enumerate() {
+        *slot = Entry {
             clear: numbers::be16(auxiliary, iv + 2 + 6 * i),
             protected: numbers::be32(auxiliary, iv + 4 + 6 * i),
         };
     }
-    map
+    SubsampleMap { entries, count }
 }
 
 // The IV, filled out with zeros; the constant one where the track has one; zero if it is unprotected.

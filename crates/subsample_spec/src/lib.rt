@@ -15,6 +15,7 @@ pub struct Entry {
 }
 
 // The entries of a sample, and how many are used; unused places are 0 and 0.
+// A count above the places can be said, and is refused as 9. No entries stand for one protected range, as auxiliary data has it.
 #[derive(Clone, Copy)]
 pub struct SubsampleMap {
     pub entries: [Entry; SubsampleMap::LIMIT],

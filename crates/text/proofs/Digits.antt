@@ -58,10 +58,15 @@ unfolding digits_below
 all-digits [] = refl
 all-digits (c ∷ cs) = rw (some_small c, all-digits cs)
 
-pub worth_below : (n : ℕ) (o : Option ℕ) → below n o ≡ true → unwrap_or o 0 < n
+pub worth_below : (n : ℕ) (o : Option ℕ) → below n o ≡ true → unwrap_or o 16 < n
 unfolding below
 worth_below n (Some v) h = ltb-true v n h
-worth_below n None h = absurd (cc)
+worth_below n None h = ltb-true 16 n h
+
+-- what counts as a digit has a value
+pub some_worth : (o : Option ℕ) → unwrap_or o 16 < 16 → unwrap_or o 0 ≡ unwrap_or o 16
+some_worth (Some v) h = refl
+some_worth None h = omega (arith, h)
 
 pub below_at : (n : ℕ) (word : List ℕ) → digits_below n word ≡ true → (i : ℕ) → i < length word → below n (value (get_or word i 0)) ≡ true
 unfolding digits_below
@@ -86,9 +91,9 @@ unfolding digits_below
 below_all n [] h = refl
 below_all n (c ∷ cs) h = rw (h 0 (omega arith)) (below_all n cs (λ i l. h (suc i) (omega arith)))
 
-pub no_value : (n : ℕ) (o : Option ℕ) → o ≡ None → below n o ≡ false
+pub no_value : (n : ℕ) (o : Option ℕ) → o ≡ None → n ≤ 16 → below n o ≡ false
 unfolding below
-no_value n o e = rw e
+no_value n o e l = rw e (le-ltb 16 n l)
 
 pub some_below : (n : ℕ) (o : Option ℕ) (v : ℕ) → o ≡ Some v → v < n → below n o ≡ true
 unfolding below
@@ -179,7 +184,7 @@ value-digit n l =
 
 first_digit : (k : ℕ) → 0 < k → k < 16 → digit k ≡ 48 → ⊥
 unfolding value
-first_digit k l h e = omega (arith, ap (λ o. unwrap_or o 0) (value-digit k h), ap worth e)
+first_digit k l h e = omega (arith, ap (λ o. unwrap_or o 16) (value-digit k h), ap worth e)
 
 digits_are : (word : List ℕ) (n largest : ℕ) → digits_below 10 word ≡ true → decimal_from 0 word ≡ n → n ≤ largest
     → of_digits word largest ≡ Some n

@@ -9,6 +9,8 @@ use native.Mathlib.Omega.{arith}
 use lib.Dec.{eqb, leb}
 use lib.ListN.{length, get_or, take, drop, set, take-append-drop}
 use lib.Seq.{paste, paste-suc, drop-drop}
+use Rattle.std.specs.Simd.{first_chunks}
+use Rattle.std.proofs.lemmas.List.{get_or-take, get_or-drop}
 use borrow.Rule.Slice.PartMut.{put_mid}
 use borrow.Author.Tests.{le-leb, lt-leb, eq-eqb, ne_eqb, lt-ltb, leb-true}
 use Rattle.octets.specs.Ascii.{ascii}
@@ -90,6 +92,17 @@ unhex_at (a ∷ b ∷ cs) (suc i) (suc (suc j)) (suc zero) e f l = omega arith
 unhex_at (a ∷ b ∷ cs) (suc i) (suc (suc j)) (suc (suc k)) e f l = unhex_at cs i j k (omega arith) (omega arith) (omega arith)
 unhex_at (a ∷ []) i j k e f l = omega arith
 unhex_at [] i j k e f l = omega arith
+
+-- a digit of a pair stands in the word
+pub pair_at : (word : List ℕ) (n i r j : ℕ) → j ≡ 2 * i + r → i < n → r < 2
+    → get_or (get_or (first_chunks 2 n word) i []) r 0 ≡ get_or word j 0
+pair_at word zero i r j e l h = absurd (omega arith)
+pair_at word (suc n) zero r j e l h =
+    let q : j ≡ r = omega arith in
+    rw q (get_or-take 2 word r 0 h)
+pair_at word (suc n) (suc i) r j e l h =
+    pair_at (drop 2 word) n i r (2 * i + r) refl (omega arith) h ∙ get_or-drop 2 word (2 * i + r) 0
+    ∙ ap (λ (m : ℕ). get_or word m 0) (omega arith)
 
 -- a byte more
 pub unhex-next : (out word : List ℕ) (i : ℕ) → i < length word / 2 → length word / 2 ≤ length out

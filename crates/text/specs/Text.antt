@@ -1,5 +1,5 @@
 -- Document 01, "The sheet program", and README.md, "The programs": numbers and byte strings as text, and the words of a line.
-use Rattle.std.specs.Prelude.{Bool, true, false, cond, not, ◌&&◌, ◌||◌, Option, Some, None, List, [], ◌∷◌, ℕ, zero, suc, ◌+◌, ◌-◌, ◌*◌, ◌/◌, ◌%◌, eqb, leb, ltb, length, get_or, drop}
+use Rattle.std.specs.Prelude.{Bool, true, cond, not, ◌&&◌, ◌||◌, Option, Some, None, List, [], ◌∷◌, ℕ, zero, suc, ◌+◌, ◌-◌, ◌*◌, ◌/◌, ◌%◌, eqb, leb, ltb, length, get_or, drop}
 use Rattle.std.specs.Option.{unwrap_or}
 use Rattle.octets.specs.Ascii.{ascii}
 use Rattle.octets.specs.Bytes.{same}
@@ -14,14 +14,14 @@ digit n = get_or (ascii "0123456789abcdef") n 0
 unfoldable pub value : ℕ → Option ℕ
 value c = cond (leb 48 c && leb c 57) (Some (c - 48)) (cond (leb 97 c && leb c 102) (Some (c - 87)) None)
 
--- The value of what has to be a digit.
+-- What a byte counts as: the value of a digit, 16 for any other byte.
 abbrev pub worth : ℕ → ℕ
-worth c = unwrap_or (value c) 0
+worth c = unwrap_or (value c) 16
 
--- Whether there is a value, and it is below n.
+-- Whether a value is below n; none counts as 16.
 unfoldable pub below : ℕ → Option ℕ → Bool
 below n (Some v) = ltb v n
-below n None = false
+below n None = ltb 16 n
 
 -- Whether all bytes are digits with values below n.
 unfoldable pub digits_below : ℕ → List ℕ → Bool

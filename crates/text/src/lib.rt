@@ -5,14 +5,14 @@ ghost use Rattle.std.specs.Prelude.{true, ◌≡◌, ◌+◌, ◌*◌, ◌/◌, 
 ghost use Rattle.octets.specs.Bytes.{placed};
 ghost use Rattle.text.specs.Text as spec;
 
-// The digit of a number below 16.
+// The digit of a number below 16; 0 for a number above 15, as `digit` of specs.
 pub fn digit(n: u8) -> u8
     ensures { result ≡ spec.digit n }
 {
     b"0123456789abcdef".get(n as usize).copied().unwrap_or(0)
 }
 
-// The value of a digit, none for any other byte.
+// The value of a digit, none for any other byte; std's `to_digit` takes capitals too.
 pub fn value(c: u8) -> Option<u8>
     ensures { result ≡ spec.value c }
 {
@@ -33,6 +33,7 @@ pub fn read_number(word: &[u8], largest: u64) -> Option<u64>
     of_digits(word, largest)
 }
 
+// By hand: `parse` of std takes a `+`, and wants a `str` where a word is any bytes.
 fn of_digits(word: &[u8], largest: u64) -> Option<u64>
     ensures { (result ≡ spec.of_digits word.now largest) × IfSome result (λ n. n ≤ largest) }
 {
@@ -47,7 +48,7 @@ fn of_digits(word: &[u8], largest: u64) -> Option<u64>
     (sum <= largest).then_some(sum)
 }
 
-// Two digits for each byte.
+// Two digits for each byte: `write!` of `{:02x}` into a slice would be a call that can fail for each.
 pub fn hex(bytes: [u8; 16]) -> [u8; 32]
     ensures { result ≡ spec.hex bytes }
 {
@@ -56,14 +57,15 @@ pub fn hex(bytes: [u8; 16]) -> [u8; 32]
     text
 }
 
-// Whether a buffer has room for as many bytes from a place on.
+// Whether a buffer has room for as many bytes from a place on. `octets` has this test in its one call that needs it.
 fn fits(out: &[u8], at: usize, count: usize) -> bool
     ensures { result ≡ leb (at + count) (length out.now) }
 {
     at <= out.len() && count <= out.len() - at
 }
 
-// Puts a text into a buffer from a place on, or nothing where it does not fit; answers where it ends.
+// Puts a text into a buffer from a place on; answers where it ends. The place beside the buffer, here and below, as `placed` has it.
+// What does not fit ends where it began, as `end_of` has it.
 pub fn put(text: &[u8], out: &mut [u8], at: usize) -> usize
     ensures { (out.new ≡ placed out.old at text.now) × (result ≡ spec.end_of out.old at text.now) }
 {
@@ -75,7 +77,7 @@ pub fn put(text: &[u8], out: &mut [u8], at: usize) -> usize
     end
 }
 
-// Puts a byte string into a buffer as a word.
+// Puts a byte string into a buffer as a word. What does not fit ends where it began, as `end_of` has it.
 pub fn put_hex(s: &[u8], out: &mut [u8], at: usize) -> usize
     ensures { (out.new ≡ placed out.old at (spec.hex_word s.now)) × (result ≡ spec.end_of out.old at (spec.hex_word s.now)) }
 {
@@ -94,9 +96,10 @@ fn put_pairs(s: &[u8], out: &mut [u8])
     requires { length out.old ≡ 2 * length s.now }
     ensures { out.new ≡ spec.hex s.now }
 {
-    for i in 0..s.len() {
-        out[2 * i] = digit(s[i] / 16);
-        out[2 * i + 1] = digit(s[i] % 16);
+    // Its places by index: of `as_chunks_mut` zipped with `s` nothing is known afterwards.
+    for (i, b) in s.iter().enumerate() {
+        out[2 * i] = digit(*b / 16);
+        out[2 * i + 1] = digit(*b % 16);
     }
 }
 
@@ -113,7 +116,8 @@ fn is_hex(word: &[u8]) -> bool
     word.iter().all(|c| value(*c).is_some()) && word.len() % 2 == 0
 }
 
-// Puts the bytes that a word is into a buffer from a place on, or nothing where they do not fit; answers where they end.
+// Puts the bytes that a word is into a buffer from a place on; answers where they end.
+// What does not fit ends where it began, as `end_of` has it.
 pub fn read_bytes(word: &[u8], out: &mut [u8], at: usize) -> usize
     ensures { (out.new ≡ placed out.old at (spec.bytes_of word.now)) × (result ≡ spec.end_of out.old at (spec.bytes_of word.now)) }
 {
@@ -129,9 +133,10 @@ fn read_pairs(word: &[u8], out: &mut [u8])
     requires { (length out.old ≡ length word.now / 2) × (spec.is_bytes word.now ≡ true) }
     ensures { out.new ≡ spec.unhex word.now }
 {
-    for i in 0..out.len() {
-        let high = value(word[2 * i]).unwrap_or(0);
-        let low = value(word[2 * i + 1]).unwrap_or(0);
+    // Its place by index: of `iter_mut` zipped with the pairs nothing is known afterwards.
+    for (i, pair) in word.as_chunks::<2>().0.iter().enumerate() {
+        let high = value(pair[0]).unwrap_or(0);
+        let low = value(pair[1]).unwrap_or(0);
         out[i] = high * 16 + low;
     }
 }

@@ -10,7 +10,8 @@ pub use track_allowed::{check, has_constant, known};
 pub use track_spec::{Kid, Parameters, StartVector};
 pub use track_write::write;
 
-// The constant IV at a place, or zeros where none is called for; a byte past the end counts as zero.
+// The constant IV at a place, or zeros where none is called for; a byte past the end counts as zero. The parameters that it belongs to are
+// not there yet.
 fn constant(at: usize, bytes: &[u8], protected: u8, iv_size: u8) -> StartVector
     ensures { result ≡ record { 0 = cond (spec.has_constant protected iv_size) (filled 16 (drop at bytes.now)) spec.zeros } }
 {

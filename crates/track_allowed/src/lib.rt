@@ -10,6 +10,7 @@ use refusals::Refusal;
 use track_spec::{Kid, Parameters, StartVector};
 
 // Whether a code names one of the four schemes.
+// By `==`: the arms of a `match` on byte strings would tell a proof the length alone.
 #[tactic(auto, using(octets::proofs::Equal::equal), unfolding(track_spec::specs::Track::known))]
 pub fn known(code: &[u8]) -> bool
     ensures { result ≡ spec.known code.now }
@@ -20,13 +21,14 @@ pub fn known(code: &[u8]) -> bool
         || code == b"cbcs".as_slice()
 }
 
-// Whether the track has a constant IV.
+// Whether the track has a constant IV. The numbers one by one: a reader has them before it has parameters.
 pub fn has_constant(protected: u8, iv_size: u8) -> bool
     ensures { result ≡ spec.has_constant protected iv_size }
 {
     protected == 1 && iv_size == 0
 }
 
+// The two counts as numbers, here and below, as the definitions have them.
 fn no_pattern(crypt: u8, skip: u8) -> bool
     ensures { result ≡ spec.no_pattern crypt skip }
 {
@@ -53,6 +55,7 @@ fn eight_or_sixteen(iv_size: u8) -> bool
 }
 
 // What a protected track of each scheme may have.
+// By `==`: the arms of a `match` on byte strings would tell a proof the length alone.
 #[tactic(auto, using(octets::proofs::Equal::equal), unfolding(track_spec::specs::Track::allowed_protected))]
 fn allowed_protected(p: Parameters) -> bool
     ensures { result ≡ spec.allowed_protected p.code p.iv_size p.crypt p.skip }
@@ -104,7 +107,7 @@ pub fn bad_version(version: u8, crypt: u8, skip: u8) -> bool
     1 < version || (version == 0 && !no_pattern(crypt, skip))
 }
 
-// The length of the box that the fields call for.
+// The length of the box that the fields call for, by the two that decide it.
 pub fn box_length(protected: u8, iv_size: u8) -> usize
     ensures { result ≡ spec.box_length protected iv_size }
 {

@@ -21,6 +21,7 @@ impl StartVector {
 }
 
 // What a track's box holds, the scheme's code with it.
+// The numbers are a box's bytes, whatever they are; `check` refuses those that mean nothing.
 #[derive(Clone, Copy)]
 pub struct Parameters {
     pub code: [u8; 4],

@@ -16,7 +16,7 @@ fn front(p: Parameters) -> [u8; 4]
     [0, p.crypt * 16 + p.skip, p.protected, p.iv_size]
 }
 
-// Stores these four bytes and the KID from a place on.
+// Stores these four bytes and the KID from a place on, which stands beside the output here and below, as `placed` has it.
 fn store_front(p: Parameters, out: &mut [u8], at: usize)
     requires { (p.crypt ≤ 15) × (p.skip ≤ 15) × (at ≤ 12) }
     ensures { out.new ≡ placed (placed out.old at (spec.front_bytes p)) (at + 4) p.kid.0 }

@@ -36,7 +36,7 @@ fn key_expansion(to: &impl Print, keys: RoundKeys) -> io::Result<()> {
     Ok(())
 }
 
-// FIPS 197, appendices B and C.1: a block each way.
+// FIPS 197, appendices B and C.1: a block each way. Round keys go by value, as everywhere.
 fn example(
     to: &impl Print,
     appendix: &str,
@@ -116,6 +116,7 @@ struct Chain {
     block: [u8; Block::SIZE],
 }
 
+// The libraries' own additions of blocks are private.
 fn xor(a: [u8; Block::SIZE], b: [u8; Block::SIZE]) -> [u8; Block::SIZE] {
     array::from_fn(|i| a[i] ^ b[i])
 }

@@ -8,7 +8,7 @@ ghost use Rattle.volume_spec.specs.Volume as spec;
 use refusals::Refusal;
 use volume_spec::{Entry, Trailer};
 
-// Stores an index entry from a place on.
+// Stores an index entry from a place on, which stands beside the output here and below, as `placed` has it.
 fn store_entry(entry: Entry, out: &mut [u8], at: usize)
     requires { at + 24 ≤ length out.old }
     ensures { out.new ≡ placed out.old at (spec.entry_bytes entry) }
@@ -52,14 +52,15 @@ pub fn empty(out: &mut [u8]) -> Result<usize, Refusal>
     Ok(Trailer::SIZE)
 }
 
-// Whether an output is shorter than a volume with one more record.
+// Whether an output is shorter than a volume with one more record: a sum of three lengths, which a `usize` may not hold.
 fn is_short(volume: usize, record: usize, room: usize) -> bool
     ensures { result ≡ ltb room (volume + «record» + 24) }
 {
     (room as u128) < volume as u128 + record as u128 + Entry::SIZE as u128
 }
 
-// Stores a valid volume with one more record in front of an output that has room for it.
+// Stores a valid volume with one more record in front of an output that has room for it. Record, term and today one by one, as the
+// definition `added` takes them.
 #[tactic(auto, using(volume_spec::proofs::Valid::filled_by))]
 fn store(volume: &[u8], record: &[u8], term: u32, today: u32, out: &mut [u8])
     requires { (spec.valid volume.now ≡ true) × (length volume.now + length «record».now + 24 ≤ length out.old) }
@@ -90,7 +91,8 @@ fn store(volume: &[u8], record: &[u8], term: u32, today: u32, out: &mut [u8])
     store_trailer(last, out, trailer);
 }
 
-// Writes the volume with one more record, whose day is today, and answers its length: 50, 52 and 53. Only its bytes change, and none if refused.
+// Writes the volume with one more record, whose day is today, and answers its length: 50, 52 and 53. Only its bytes change, and none if
+// refused.
 #[tactic(auto, unfolding(volume_spec::specs::Volume::add, volume_spec::specs::Volume::after_adding, octets::specs::Answers::answer))]
 pub fn add(
     volume: &[u8],

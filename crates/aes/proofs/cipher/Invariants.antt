@@ -1,6 +1,6 @@
-use Rattle.std.proofs.Common.{◌≡◌, ◌-◌}
+use Rattle.std.proofs.Common.{◌≡◌}
 use Rattle.fips197.specs.Cipher.{rounds}
 use Rattle.aes.proofs.cipher.Given as goal
 
-abbrev pub invariant-loop-i : goal.invariant-loop-i
-invariant-loop-i l = l.t ≡ rounds l.keys (l.i - 1) l.initial.t
+abbrev pub invariant-loop-k : goal.invariant-loop-k
+invariant-loop-k l = l.t ≡ rounds l.fn.keys l.k-index l.initial.t

@@ -25,7 +25,7 @@ within n largest false q = tt
 pub returns-in_err-d : goal.returns-in_err-d
 returns-in_err-d c =
     let a = c.args in
-    let n : spec.of_digits a.word.now a.largest ≡ None = digits_not a.word.now a.largest (below_not 10 a.word.now c.loop-c.c-index (omega arith) (no_value 10 _ (sym c.value.ensures ∙ c.in_err-d.was))) in
+    let n : spec.of_digits a.word.now a.largest ≡ None = digits_not a.word.now a.largest (below_not 10 a.word.now c.loop-c.c-index (omega arith) (no_value 10 _ (sym c.value.ensures ∙ c.in_err-d.was) (omega arith))) in
     rw n (c.from_residual.ensures, search rules)
 
 pub returns-then-d-gt9 : goal.returns-then-d-gt9
@@ -38,7 +38,7 @@ returns-in_err-checked_mul c =
     let a = c.args in
     let l = c.loop-c in
     let over = c.in_err-checked_mul.ensures in
-    let d = ap (λ o. unwrap_or o 0) (sym c.value.ensures ∙ c.in_ok-d.was) in
+    let d = ap (λ o. unwrap_or o 16) (sym c.value.ensures ∙ c.in_ok-d.was) in
     let g = from_grows (l.sum * 10 + spec.worth (get_or a.word.now l.c-index 0)) (drop (l.c-index + 1) a.word.now) in
     let f = from_next l.sum a.word.now l.c-index (omega arith) in
     let n : spec.of_digits a.word.now a.largest ≡ None = digits_above a.word.now a.largest (omega (arith, over, g, f, l.invariant.1)) in
@@ -50,7 +50,7 @@ returns-in_err-sum c =
     let l = c.loop-c in
     let over = c.in_err-sum.ensures in
     let product = c.in_ok-checked_mul.ensures in
-    let d = ap (λ o. unwrap_or o 0) (sym c.value.ensures ∙ c.in_ok-d.was) in
+    let d = ap (λ o. unwrap_or o 16) (sym c.value.ensures ∙ c.in_ok-d.was) in
     let g = from_grows (l.sum * 10 + spec.worth (get_or a.word.now l.c-index 0)) (drop (l.c-index + 1) a.word.now) in
     let f = from_next l.sum a.word.now l.c-index (omega arith) in
     let n : spec.of_digits a.word.now a.largest ≡ None = digits_above a.word.now a.largest (omega (arith, over, product, d, g, f, c.from.ensures, l.invariant.1)) in
@@ -62,7 +62,7 @@ loop-c-preserved c =
     let l = c.loop-c in
     let sum = c.in_ok-sum.ensures in
     let product = c.in_ok-checked_mul.ensures in
-    let d = ap (λ o. unwrap_or o 0) (sym c.value.ensures ∙ c.in_ok-d.was) in
+    let d = ap (λ o. unwrap_or o 16) (sym c.value.ensures ∙ c.in_ok-d.was) in
     let e : c.in_ok-sum.sum ≡ l.sum * 10 + spec.worth (get_or a.word.now l.c-index 0) = omega (arith, sum, product, d, c.from.ensures) in (
       below_more _ _ l.invariant.0 (some_below 10 _ _ (sym c.value.ensures ∙ c.in_ok-d.was) (omega arith)),
       rw e (sym (from_next l.sum a.word.now l.c-index (omega arith)) ∙ l.invariant.1),
