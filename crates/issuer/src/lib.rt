@@ -30,6 +30,13 @@ pub fn start(bytes: &[u8]) -> Result<Issuer, Refusal>
     }
 }
 
+// The issuer after a start: one that is used up where it was refused.
+pub fn issuer_after(started: Result<Issuer, Refusal>) -> Issuer
+    ensures { result ≡ (spec.as_started started).issuer }
+{
+    started.unwrap_or(Issuer::exhausted())
+}
+
 // Eight bytes and eight more.
 fn joined(a: [u8; 8], b: [u8; 8]) -> [u8; StartVector::SIZE]
     ensures { result ≡ a ++ b }
@@ -101,4 +108,11 @@ pub fn grant(issuer: &mut Issuer, blocks: u64) -> Result<StartVector, Refusal>
     let granted = vector(*issuer);
     *issuer = after(*issuer, last);
     Ok(granted)
+}
+
+// The start vector after a grant: zeros where it was refused.
+pub fn vector_after(granted: Result<StartVector, Refusal>) -> StartVector
+    ensures { (issuer : Issuer) → result ≡ (spec.as_granted granted issuer).vector }
+{
+    granted.unwrap_or(StartVector([0; StartVector::SIZE]))
 }

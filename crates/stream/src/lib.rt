@@ -30,6 +30,13 @@ pub fn start(direction: Direction, inputs: Inputs, sample_length: usize) -> Resu
     Ok(Stream::begun(declared, read.iv))
 }
 
+// The record after a start: that of an empty unprotected track where it was refused.
+pub fn stream_after(started: Result<Stream, Refusal>) -> Stream
+    ensures { result ≡ (spec.as_started started).stream }
+{
+    started.unwrap_or(Stream::idle())
+}
+
 // Whether what was declared keeps its rules; no entries if unprotected.
 #[tactic(auto, unfolding(stream_spec::specs::Stream::sound_declared))]
 fn sound_declared(declared: Declared) -> bool
@@ -147,6 +154,17 @@ pub fn feed(stream: Stream, piece: &[u8], out: &mut [u8]) -> Result<Fed, Refusal
     Ok(Fed {
         released: checked.due,
         stream: Stream { progress, ..stream },
+    })
+}
+
+// What feeding released, and the record after it: nothing, and the record as it was, where it was refused.
+pub fn fed_after(stream: Stream, fed: Result<Fed, Refusal>) -> Fed
+    ensures released { result.released ≡ (spec.as_fed stream fed).released }
+    ensures record_after { result.stream ≡ (spec.as_fed stream fed).stream }
+{
+    fed.unwrap_or(Fed {
+        released: 0,
+        stream,
     })
 }
 

@@ -122,3 +122,14 @@ pub fn read(
     let parameters = track::read(code, track_box)?;
     read_under(parameters, auxiliary, length)
 }
+
+// Map and IV after reading: those of an empty unprotected track where it was refused.
+pub fn auxiliary_after(read: Result<Auxiliary, Refusal>) -> Auxiliary
+    ensures map { result.map ≡ (spec.as_auxiliary_read read).map }
+    ensures iv { result.iv ≡ (spec.as_auxiliary_read read).iv }
+{
+    read.unwrap_or(Auxiliary {
+        map: SubsampleMap::empty(),
+        iv: StartVector([0; StartVector::SIZE]),
+    })
+}

@@ -8,7 +8,7 @@ ghost use Rattle.track_spec.specs.Track as spec;
 pub use refusals::Refusal;
 pub use track_allowed::{check, has_constant, known};
 pub use track_spec::{Kid, Parameters, StartVector};
-pub use track_write::write;
+pub use track_write::{length_after, write};
 
 // The constant IV at a place, or zeros where none is called for; a byte past the end counts as zero. The parameters that it belongs to are
 // not there yet.
@@ -82,4 +82,11 @@ pub fn read(code: &[u8], track_box: &[u8]) -> Result<Parameters, Refusal>
         return Err(Refusal::Fields);
     }
     Ok(p)
+}
+
+// The parameters after reading a box: those of an unprotected track where it was refused.
+pub fn parameters_after(read: Result<Parameters, Refusal>) -> Parameters
+    ensures { result ≡ (spec.as_box_read read).parameters }
+{
+    read.unwrap_or(Parameters::unprotected())
 }

@@ -68,3 +68,10 @@ pub fn write(parameters: Parameters, out: &mut [u8]) -> Result<usize, Refusal>
     store(parameters, length, out);
     Ok(length)
 }
+
+// The length of what was written: 0 where writing was refused.
+pub fn length_after(written: Result<usize, Refusal>) -> usize
+    ensures { result ≡ (spec.as_box_written written).length }
+{
+    written.unwrap_or(0)
+}

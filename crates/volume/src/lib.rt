@@ -8,7 +8,7 @@ ghost use Rattle.volume_spec.specs.Volume as spec;
 pub use refusals::Refusal;
 pub use volume_spec::{Entry, Found, Trailer};
 pub use volume_valid::check;
-pub use volume_write::{add, empty};
+pub use volume_write::{add, empty, length_after};
 
 // An entry of a valid volume's index, counted from 0.
 #[tactic(auto, using(volume_spec::proofs::Valid::filled_by))]
@@ -35,6 +35,17 @@ pub fn record(volume: &[u8], index: u64) -> Result<Found, Refusal>
     Ok(Found {
         offset: entry.offset as usize,
         length: entry.length as usize,
+    })
+}
+
+// Where the record lies that was asked for: at 0 with length 0 where it was refused.
+pub fn found_after(found: Result<Found, Refusal>) -> Found
+    ensures place { result.offset ≡ (spec.as_found found).offset }
+    ensures size { result.length ≡ (spec.as_found found).length }
+{
+    found.unwrap_or(Found {
+        offset: 0,
+        length: 0,
     })
 }
 

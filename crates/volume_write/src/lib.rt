@@ -116,3 +116,10 @@ pub fn add(
     store(volume, record, term, today, out);
     Ok(volume.len() + record.len() + Entry::SIZE)
 }
+
+// The length of the volume written: 0 where writing was refused.
+pub fn length_after(written: Result<usize, Refusal>) -> usize
+    ensures { result ≡ (spec.as_written written).length }
+{
+    written.unwrap_or(0)
+}
