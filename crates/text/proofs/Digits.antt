@@ -63,6 +63,16 @@ unfolding below
 worth_below n (Some v) h = ltb-true v n h
 worth_below n None h = ltb-true 16 n h
 
+pub worth_is : (n : ℕ) (o : Option ℕ) → unwrap_or o 16 < n → below n o ≡ true
+unfolding below
+worth_is n (Some v) h = lt-ltb v n h
+worth_is n None h = lt-ltb 16 n h
+
+pub worth_not : (n : ℕ) (o : Option ℕ) → n ≤ unwrap_or o 16 → below n o ≡ false
+unfolding below
+worth_not n (Some v) h = le-ltb v n h
+worth_not n None h = le-ltb 16 n h
+
 -- what counts as a digit has a value
 pub some_worth : (o : Option ℕ) → unwrap_or o 16 < 16 → unwrap_or o 0 ≡ unwrap_or o 16
 some_worth (Some v) h = refl
@@ -90,18 +100,6 @@ pub below_all : (n : ℕ) (word : List ℕ) → ((i : ℕ) → i < length word �
 unfolding digits_below
 below_all n [] h = refl
 below_all n (c ∷ cs) h = rw (h 0 (omega arith)) (below_all n cs (λ i l. h (suc i) (omega arith)))
-
-pub no_value : (n : ℕ) (o : Option ℕ) → o ≡ None → n ≤ 16 → below n o ≡ false
-unfolding below
-no_value n o e l = rw e (le-ltb 16 n l)
-
-pub some_below : (n : ℕ) (o : Option ℕ) (v : ℕ) → o ≡ Some v → v < n → below n o ≡ true
-unfolding below
-some_below n o v e l = rw e (lt-ltb v n l)
-
-pub some_not : (n : ℕ) (o : Option ℕ) (v : ℕ) → o ≡ Some v → n ≤ v → below n o ≡ false
-unfolding below
-some_not n o v e l = rw e (le-ltb v n l)
 
 -- ---- Numbers below 1000, written.
 

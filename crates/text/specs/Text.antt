@@ -1,8 +1,9 @@
 -- Document 01, "The sheet program", and README.md, "The programs": numbers and byte strings as text, and the words of a line.
-use Rattle.std.specs.Prelude.{Bool, true, cond, not, ◌&&◌, ◌||◌, Option, Some, None, List, [], ◌∷◌, ℕ, zero, suc, ◌+◌, ◌-◌, ◌*◌, ◌/◌, ◌%◌, eqb, leb, ltb, length, get_or, drop}
+use Rattle.std.specs.Prelude.{Bool, true, cond, not, ◌&&◌, ◌||◌, Option, Some, None, List, [], ◌∷◌, ℕ, zero, suc, ◌+◌, ◌-◌, ◌*◌, ◌/◌, ◌%◌, min, eqb, leb, ltb, length, get_or, drop}
 use Rattle.std.specs.Option.{unwrap_or}
 use Rattle.octets.specs.Ascii.{ascii}
 use Rattle.octets.specs.Bytes.{same}
+use Rattle.text.specs.declared.Span.{Span}
 
 -- ---- Digits.
 
@@ -103,3 +104,11 @@ from_word b (suc n) line = from_word b n (behind b line)
 -- A word of a line, its words parted by the byte b; empty where there are not so many.
 unfoldable pub word : ℕ → ℕ → List ℕ → List ℕ
 word b n line = up_to b (from_word b n line)
+
+-- The word from a place on; the end of the line where the place is past it.
+unfoldable pub word_at : ℕ → ℕ → List ℕ → Span
+word_at b at line =
+    record {
+      start = min at (length line);
+      end = min at (length line) + length (up_to b (drop at line));
+    }

@@ -1,7 +1,7 @@
 // Numbers and byte strings as text: decimal and hexadecimal digits, and the words of a line.
 #![tactic(auto)]
 
-ghost use Rattle.std.specs.Prelude.{true, ◌≡◌, ◌+◌, ◌*◌, ◌/◌, ◌≤◌, leb, length, IfSome};
+ghost use Rattle.std.specs.Prelude.{true, ◌≡◌, ◌+◌, ◌*◌, ◌/◌, ◌≤◌, leb, min, length, drop, IfSome};
 ghost use Rattle.octets.specs.Bytes.{placed};
 ghost use Rattle.text.specs.Text as spec;
 
@@ -39,7 +39,7 @@ fn of_digits(word: &[u8], largest: u64) -> Option<u64>
 {
     let mut sum: u64 = 0;
     for c in word {
-        let d = value(*c)?;
+        let d = value(*c).unwrap_or(16);
         if 9 < d {
             return None;
         }
@@ -146,6 +146,35 @@ pub fn word(line: &[u8], index: usize, parting: u8) -> &[u8]
     ensures { result.now ≡ spec.word parting index line.now }
 {
     line.split(|b| *b == parting).nth(index).unwrap_or(&[])
+}
+
+// Where a word of a line starts and ends.
+#[derive(Clone, Copy)]
+pub struct Span {
+    pub start: usize,
+    pub end: usize,
+}
+
+// The word from a place on, up to the next byte that parts words or the end of the line.
+pub fn word_at(line: &[u8], at: usize, parting: u8) -> Span
+    ensures { (result ≡ spec.word_at parting at line.now) × (result.start ≡ min at (length line.now)) × (result.start ≤ result.end) × (result.end ≤ length line.now) }
+{
+    let start = at.min(line.len());
+    Span {
+        start,
+        end: start + word(&line[start..], 0, parting).len(),
+    }
+}
+
+// Where a word of a line starts; past the end where there are not so many.
+pub fn word_start(line: &[u8], index: usize, parting: u8) -> usize
+    ensures { drop result line.now ≡ spec.from_word parting index line.now }
+{
+    let mut start = 0;
+    for _ in 0..index {
+        start = word_at(line, start, parting).end + 1;
+    }
+    start
 }
 
 // The number from 0 to the largest that a word of a line is.

@@ -9,7 +9,7 @@ use borrow.Author.Tests.{leb-true}
 use Rattle.std.specs.Bool.{then_some}
 use Rattle.std.specs.Option.{unwrap_or, IfSome}
 use Rattle.text.specs.Text as spec
-use Rattle.text.proofs.Digits.{below_not, below_all, no_value, some_below, some_not, from_grows, from_next, digits_not, digits_above}
+use Rattle.text.proofs.Digits.{below_not, below_all, worth_is, worth_not, from_grows, from_next, digits_not, digits_above}
 use native.Mathlib.Omega.{arith}
 use Rattle.std.proofs.Common.{rules, Some, None}
 use Rattle.text.proofs.of_digits.Goals as goal
@@ -22,27 +22,20 @@ within : (n largest : ℕ) (t : Bool) → leb n largest ≡ t → IfSome (cond t
 within n largest true q = leb-true n largest q
 within n largest false q = tt
 
-pub returns-in_err-d : goal.returns-in_err-d
-returns-in_err-d c =
-    let a = c.args in
-    let n : spec.of_digits a.word.now a.largest ≡ None = digits_not a.word.now a.largest (below_not 10 a.word.now c.loop-c.c-index (omega arith) (no_value 10 _ (sym c.value.ensures ∙ c.in_err-d.was) (omega arith))) in
-    rw n (c.from_residual.ensures, search rules)
-
 pub returns-then-d-gt9 : goal.returns-then-d-gt9
 returns-then-d-gt9 c =
     let a = c.args in
-    (sym (digits_not a.word.now a.largest (below_not 10 a.word.now c.loop-c.c-index (omega arith) (some_not 10 _ _ (sym c.value.ensures ∙ c.in_ok-d.was) (omega arith)))), tt)
+    (sym (digits_not a.word.now a.largest (below_not 10 a.word.now c.loop-c.c-index (omega arith) (worth_not 10 _ (rw (c.unwrap_or-d.ensures, c.value.ensures) at c.if-d-gt9.true)))), tt)
 
 pub returns-in_err-checked_mul : goal.returns-in_err-checked_mul
 returns-in_err-checked_mul c =
     let a = c.args in
     let l = c.loop-c in
     let over = c.in_err-checked_mul.ensures in
-    let d = ap (λ o. unwrap_or o 16) (sym c.value.ensures ∙ c.in_ok-d.was) in
     let g = from_grows (l.sum * 10 + spec.worth (get_or a.word.now l.c-index 0)) (drop (l.c-index + 1) a.word.now) in
     let f = from_next l.sum a.word.now l.c-index (omega arith) in
     let n : spec.of_digits a.word.now a.largest ≡ None = digits_above a.word.now a.largest (omega (arith, over, g, f, l.invariant.1)) in
-    rw n (c.from_residual-in_err-checked_mul.ensures, search rules)
+    rw n (c.from_residual.ensures, search rules)
 
 pub returns-in_err-sum : goal.returns-in_err-sum
 returns-in_err-sum c =
@@ -50,7 +43,7 @@ returns-in_err-sum c =
     let l = c.loop-c in
     let over = c.in_err-sum.ensures in
     let product = c.in_ok-checked_mul.ensures in
-    let d = ap (λ o. unwrap_or o 16) (sym c.value.ensures ∙ c.in_ok-d.was) in
+    let d = c.unwrap_or-d.ensures ∙ ap (λ o. unwrap_or o 16) c.value.ensures in
     let g = from_grows (l.sum * 10 + spec.worth (get_or a.word.now l.c-index 0)) (drop (l.c-index + 1) a.word.now) in
     let f = from_next l.sum a.word.now l.c-index (omega arith) in
     let n : spec.of_digits a.word.now a.largest ≡ None = digits_above a.word.now a.largest (omega (arith, over, product, d, g, f, c.from.ensures, l.invariant.1)) in
@@ -62,9 +55,9 @@ loop-c-preserved c =
     let l = c.loop-c in
     let sum = c.in_ok-sum.ensures in
     let product = c.in_ok-checked_mul.ensures in
-    let d = ap (λ o. unwrap_or o 16) (sym c.value.ensures ∙ c.in_ok-d.was) in
+    let d = c.unwrap_or-d.ensures ∙ ap (λ o. unwrap_or o 16) c.value.ensures in
     let e : c.in_ok-sum.sum ≡ l.sum * 10 + spec.worth (get_or a.word.now l.c-index 0) = omega (arith, sum, product, d, c.from.ensures) in (
-      below_more _ _ l.invariant.0 (some_below 10 _ _ (sym c.value.ensures ∙ c.in_ok-d.was) (omega arith)),
+      below_more _ _ l.invariant.0 (worth_is 10 _ (omega (arith, d))),
       rw e (sym (from_next l.sum a.word.now l.c-index (omega arith)) ∙ l.invariant.1),
     )
 
