@@ -1,5 +1,5 @@
 // The lines: the name of each, the letters of its words, and the function that answers it.
-use crate::line::{self, Words};
+use crate::line::{self, Room, Words};
 use crate::output::Output;
 use crate::{issuers, samples, streams, track_boxes, volumes};
 use modes::Direction;
@@ -67,12 +67,13 @@ impl Call {
         line::has_words(line, letters, more).then_some(call)
     }
 
-    // Answers it. What it writes goes to `lent`. The four are handed on one by one: no call takes them all.
+    // Answers it. What it writes goes to `lent`. The five are handed on one by one: few calls take them all.
     fn run(
         self,
         to: &impl Print,
         words: Words<'_>,
         lent: &mut [u8; line::BYTES],
+        piece: &mut [u8; line::BYTES],
         out: &mut Output,
     ) {
         match self {
@@ -81,8 +82,8 @@ impl Call {
             Call::Auxiliary => samples::auxiliary(words, out),
             Call::Lock => samples::whole(Direction::Lock, words, lent, out),
             Call::Open => samples::whole(Direction::Open, words, lent, out),
-            Call::Stream => streams::started(to, words, lent, out),
-            Call::Record => streams::given(to, words, lent, out),
+            Call::Stream => streams::started(to, words, lent, piece, out),
+            Call::Record => streams::given(to, words, lent, piece, out),
             Call::Issuer => issuers::grants(to, words, out),
             Call::EmptyVolume => volumes::empty(words, lent, out),
             Call::CheckVolume => volumes::check(words, out),
@@ -94,13 +95,17 @@ impl Call {
 }
 
 // Answers a line, and tells whether it is a call; it is malformed if not, and its answer says so, so a bool is enough.
-pub(crate) fn answer(to: &impl Print, line: &[u8], out: &mut Output) -> bool {
+pub(crate) fn answer(to: &impl Print, line: &[u8], room: &mut Room, out: &mut Output) -> bool {
     let Some(call) = Call::read(line) else {
         out.text(b"malformed");
         return false;
     };
-    let mut bytes = [0u8; line::BYTES];
-    let mut lent = [0u8; line::BYTES];
-    call.run(to, Words::read(line, &mut bytes), &mut lent, out);
+    call.run(
+        to,
+        Words::read(line, &mut room.bytes),
+        &mut room.lent,
+        &mut room.piece,
+        out,
+    );
     true
 }

@@ -62,18 +62,44 @@ fn is(letter: u8, word: &[u8]) -> bool {
 // Whether the words behind a line's name hold what letters say, a letter each; any number of words may follow that hold what `more`
 // says, if there is such a letter.
 pub(crate) fn has_words(line: &[u8], letters: &[u8], more: Option<u8>) -> bool {
-    let mut letters = letters.iter().copied();
-    for word in line.split(|b| *b == b' ').skip(1) {
-        match letters.next().or(more) {
-            Some(letter) if is(letter, word) => {}
+    let mut words = line.split(|b| *b == b' ');
+    // The name.
+    words.next();
+    for letter in letters {
+        match words.next() {
+            Some(word) if is(*letter, word) => {}
             _ => return false,
         }
     }
-    letters.next().is_none()
+    // Both letters that there are, so that what a list's words hold is not looked up for each.
+    match more {
+        Some(b'n') => words.all(|word| is(b'n', word)),
+        Some(b'c') => words.all(|word| is(b'c', word)),
+        _ => words.next().is_none(),
+    }
 }
 
 // As many bytes as a line can hold.
 pub const BYTES: usize = 131072;
+
+// What answering a line needs beside it: room for the bytes of its words, for what its call writes, and for the bytes of a piece. It stays
+// from line to line, since filling it anew would take longer than most answers do.
+#[derive(Drop)]
+pub struct Room {
+    pub bytes: [u8; BYTES],
+    pub lent: [u8; BYTES],
+    pub piece: [u8; BYTES],
+}
+
+impl Room {
+    pub(crate) fn new() -> Room {
+        Room {
+            bytes: [0; BYTES],
+            lent: [0; BYTES],
+            piece: [0; BYTES],
+        }
+    }
+}
 
 // How many words of a line may hold bytes, its name among them and its list at the end left out.
 const WORDS: usize = 17;

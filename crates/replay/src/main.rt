@@ -12,13 +12,15 @@ mod track_boxes;
 mod volumes;
 
 use arrayvec::ArrayVec;
+use line::Room;
 use output::Output;
 use std::io::Read;
 
 // The longest line, without its newline.
 const LONGEST: usize = 262144;
 
-// What has come of a line. Of one that is too long no more is held; its room stays for the next, so the flag stands beside it.
+// What has come of a line. The flag says of one that is too long that its pieces were not all held; the room stays for the next, so it
+// stands beside it.
 #[derive(Drop)]
 struct Held {
     text: ArrayVec<u8, LONGEST>,
@@ -56,10 +58,11 @@ fn say(to: &impl Eprint, text: &str) {
     let _ = eprintln!(to; "replay: {text}");
 }
 
-// The line that is coming, the answers that are still to be written, and how many lines were malformed.
+// The line that is coming, room for answering it, the answers that are still to be written, and how many lines were malformed.
 #[derive(Drop)]
 struct Replay {
     held: Held,
+    room: Room,
     out: Output,
     malformed: u64,
 }
@@ -71,6 +74,7 @@ impl Replay {
                 text: ArrayVec::new(),
                 too_long: false,
             },
+            room: Room::new(),
             out: Output::new(),
             malformed: 0,
         }
@@ -80,7 +84,7 @@ impl Replay {
     fn answer(&mut self, to: &impl Print) {
         self.out.make_room(to);
         if !self.held.is_empty() {
-            if !calls::answer(to, self.held.line(), &mut self.out) {
+            if !calls::answer(to, self.held.line(), &mut self.room, &mut self.out) {
                 self.malformed = self.malformed.saturating_add(1);
             }
             self.held.clear();

@@ -1,8 +1,12 @@
 // The text of the answers, gathered until it is written out.
+ghost use Rattle.std.specs.Prelude.{List, ℕ, ◌≡◌};
+ghost use Rattle.replay.specs.Output as spec;
+
 use crate::line;
 use arrayvec::ArrayVec;
 use itoa::Buffer as Digits;
 use refusals::Refusal;
+use std::marker::Model;
 
 // Room for two of the longest answers or replies.
 const SIZE: usize = 1048576;
@@ -12,13 +16,23 @@ const SIZE: usize = 1048576;
 #[derive(Drop)]
 pub struct Output {
     buffer: ArrayVec<u8, SIZE>,
+    // A word, on its way to the text: an `ArrayVec` lends no slice behind what it holds.
+    word: [u8; 2 * line::BYTES],
     failed: bool,
+}
+
+// Clauses see the text.
+impl Model for Output {
+    ghost Value = { List ℕ };
+
+    ghost view = { λ o. o.buffer.items };
 }
 
 impl Output {
     pub(crate) fn new() -> Output {
         Output {
             buffer: ArrayVec::new(),
+            word: [0; 2 * line::BYTES],
             failed: false,
         }
     }
@@ -42,7 +56,10 @@ impl Output {
         }
     }
 
-    pub(crate) fn text(&mut self, text: &[u8]) {
+    #[tactic(auto, unfolding(crate::specs::Output::added))]
+    pub(crate) fn text(&mut self, text: &[u8])
+        ensures { self.new ≡ spec.added self.old text.now }
+    {
         let _ = self.buffer.try_extend_from_slice(text);
     }
 
@@ -62,17 +79,12 @@ impl Output {
         self.byte(b);
     }
 
-    // Bytes as a word, byte by byte: `put_hex` wants a slice to write to, and an `ArrayVec` lends none behind its text.
-    pub(crate) fn hex(&mut self, s: &[u8]) {
-        if s.is_empty() {
-            self.byte(b'-');
-        } else if s.len() <= self.buffer.remaining_capacity() / 2 {
-            for b in s {
-                let mut digits = [0u8; 2];
-                text::put_hex(&[*b], &mut digits, 0);
-                self.text(&digits);
-            }
-        }
+    // Bytes as a word.
+    pub(crate) fn hex(&mut self, s: &[u8])
+        ensures { self.new ≡ spec.added self.old (spec.word s.now) }
+    {
+        let end = text::put_hex(s, &mut self.word, 0);
+        let _ = self.buffer.try_extend_from_slice(&self.word[..end]);
     }
 
     // Bytes, and a byte after them.
@@ -92,9 +104,9 @@ impl Output {
         self.byte(b);
     }
 
-    // `NUMBER BYTES`, of a call that wrote the first of the bytes lent; a refused one wrote none.
-    pub(crate) fn written(&mut self, written: Result<usize, Refusal>, lent: &[u8]) {
-        self.answer_then(&written, b' ');
-        self.hex(line::part(lent, 0, written.unwrap_or(0)));
+    // `NUMBER BYTES`.
+    pub(crate) fn answer_bytes<T>(&mut self, answer: &Result<T, Refusal>, bytes: &[u8]) {
+        self.answer_then(answer, b' ');
+        self.hex(bytes);
     }
 }

@@ -8,7 +8,6 @@ use modes::Direction;
 use refusals::Refusal;
 use sample::Inputs;
 use subsample::{Auxiliary, SubsampleMap};
-use track::StartVector;
 
 // The entries that count, `CLEAR:PROTECTED`, joined by commas.
 fn put_entries(map: SubsampleMap, out: &mut Output) {
@@ -38,12 +37,8 @@ pub(crate) fn auxiliary(words: Words<'_>, out: &mut Output) {
         words.bytes(4),
         words.length(3),
     );
-    let nothing = Auxiliary {
-        map: SubsampleMap::empty(),
-        iv: StartVector([0; StartVector::SIZE]),
-    };
     out.answer_then(&read, b' ');
-    let Auxiliary { map, iv } = read.unwrap_or(nothing);
+    let Auxiliary { map, iv } = subsample::auxiliary_after(read);
     put_map(map, out);
     out.byte(b' ');
     out.hex(&iv.0);
@@ -59,8 +54,7 @@ pub(crate) fn whole(
     let end = text::read_bytes(words.word(5), lent, 0);
     let sample = &mut lent[..end];
     let answer = transform(direction, inputs(words, 1), sample);
-    out.answer_then(&answer, b' ');
-    out.hex(sample);
+    out.answer_bytes(&answer, sample);
 }
 
 // The inputs of a sample: CODE, BOX, AUX and KEYS, the words from a place on.

@@ -4,7 +4,7 @@ use crate::output::Output;
 use crate::{line, samples, track_boxes};
 use aes::Key;
 use modes::{Direction, ModeBlock};
-use stream::{Declared, Fed, Progress, Stream};
+use stream::{Declared, Progress, Stream};
 use subsample::{Entry, SubsampleMap};
 
 fn put_direction(direction: Direction, out: &mut Output) {
@@ -51,10 +51,7 @@ fn end(stream: Stream, out: &mut Output) -> Stream {
 fn feed(stream: Stream, piece: &[u8], lent: &mut [u8], out: &mut Output) -> Stream {
     let answer = stream::feed(stream, piece, lent);
     out.answer_then(&answer, b'/');
-    let fed = answer.unwrap_or(Fed {
-        released: 0,
-        stream,
-    });
+    let fed = stream::fed_after(stream, answer);
     out.hex_then(line::part(lent, 0, fed.released), b' ');
     fed.stream
 }
@@ -83,13 +80,13 @@ fn replies(
     line: &[u8],
     first: usize,
     lent: &mut [u8; line::BYTES],
+    piece: &mut [u8; line::BYTES],
     out: &mut Output,
 ) {
-    let mut piece = [0u8; line::BYTES];
     let mut stream = start;
     for call in line.split(|b| *b == b' ').skip(first) {
         out.make_room(to);
-        stream = reply(stream, call, &mut piece, lent, out);
+        stream = reply(stream, call, piece, lent, out);
     }
     put_record(stream, out);
 }
@@ -100,13 +97,14 @@ pub(crate) fn started(
     to: &impl Print,
     words: Words<'_>,
     lent: &mut [u8; line::BYTES],
+    piece: &mut [u8; line::BYTES],
     out: &mut Output,
 ) {
     let inputs = samples::inputs(words, 2);
     let started = stream::start(words.direction(), inputs, words.length(6));
     out.answer_then(&started, b' ');
-    let stream = started.unwrap_or(Stream::idle());
-    replies(to, stream, words.line(), 7, lent, out);
+    let stream = stream::stream_after(started);
+    replies(to, stream, words.line(), 7, lent, piece, out);
 }
 
 // The entries of a map, `CLEAR:PROTECTED`, joined by commas.
@@ -151,11 +149,12 @@ pub(crate) fn given(
     to: &impl Print,
     words: Words<'_>,
     lent: &mut [u8; line::BYTES],
+    piece: &mut [u8; line::BYTES],
     out: &mut Output,
 ) {
     let stream = Stream {
         declared: declared(words),
         progress: progress(words),
     };
-    replies(to, stream, words.line(), 17, lent, out);
+    replies(to, stream, words.line(), 17, lent, piece, out);
 }

@@ -20,7 +20,7 @@ pub(crate) fn put_parameters(p: Parameters, out: &mut Output) {
 pub(crate) fn read(words: Words<'_>, out: &mut Output) {
     let read = track::read(words.bytes(1), words.bytes(2));
     out.answer_then(&read, b' ');
-    put_parameters(read.unwrap_or(Parameters::unprotected()), out);
+    put_parameters(track::parameters_after(read), out);
 }
 
 // Parameters whose last words are PROTECTED, IVSIZE, KID and CONSTANT, the words 5 to 8 of a line. The others stand in two lines at
@@ -54,5 +54,5 @@ pub(crate) fn write(words: Words<'_>, lent: &mut [u8; line::BYTES], out: &mut Ou
         words.byte(4),
     );
     let written = track::write(p, &mut lent[..words.room(9)]);
-    out.written(written, lent);
+    out.answer_bytes(&written, line::part(lent, 0, track::length_after(written)));
 }

@@ -10,7 +10,7 @@ const DAYS: u64 = 4294967295;
 // `vempty ROOM`, answered `NUMBER BYTES`.
 pub(crate) fn empty(words: Words<'_>, lent: &mut [u8; line::BYTES], out: &mut Output) {
     let written = volume::empty(&mut lent[..words.room(1)]);
-    out.written(written, lent);
+    out.answer_bytes(&written, line::part(lent, 0, volume::length_after(written)));
 }
 
 // `vcheck VOLUME`, answered `NUMBER`.
@@ -22,13 +22,9 @@ pub(crate) fn check(words: Words<'_>, out: &mut Output) {
 pub(crate) fn record(words: Words<'_>, out: &mut Output) {
     let volume = words.bytes(1);
     let found = volume::record(volume, words.number(2, u64::MAX));
-    out.answer_then(&found, b' ');
-    let Found { offset, length } = found.unwrap_or(Found {
-        offset: 0,
-        length: 0,
-    });
+    let Found { offset, length } = volume::found_after(found);
     let rest = line::part(volume, offset, volume.len());
-    out.hex(line::part(rest, 0, length));
+    out.answer_bytes(&found, line::part(rest, 0, length));
 }
 
 // `vadd VOLUME RECORD TERM TODAY ROOM`, answered `NUMBER BYTES`.
@@ -40,7 +36,7 @@ pub(crate) fn add(words: Words<'_>, lent: &mut [u8; line::BYTES], out: &mut Outp
         words.number(4, DAYS) as u32,
         &mut lent[..words.room(5)],
     );
-    out.written(written, lent);
+    out.answer_bytes(&written, line::part(lent, 0, volume::length_after(written)));
 }
 
 // `vdispose VOLUME INDEX TODAY`, answered `NUMBER`.
