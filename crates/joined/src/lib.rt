@@ -12,7 +12,10 @@ pub fn join(first: &[u8], second: &[u8], out: &mut [u8])
     let a = first.len().min(out.len());
     let b = second.len().min(out.len() - a);
     out[..a].copy_from_slice(&first[..a]);
-    out[a..a + b].copy_from_slice(&second[..b]);
+    // By index: both are the caller's, and a copy that may overlap would need `memmove` of an archive for C.
+    for i in 0..b {
+        out[a + i] = second[i];
+    }
 }
 
 // Their first 16 bytes, filled out with zeros.
