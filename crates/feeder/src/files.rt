@@ -1,5 +1,5 @@
 // Files. What fails is told, but for an open file's reading and writing.
-ghost use Rattle.std.specs.Prelude.{◌≤◌, length as length_of, IfOk};
+ghost use Rattle.std.specs.Prelude.{◌≤◌, length as length_of, IfOk, IfSome};
 
 use crate::arguments::Word;
 use crate::tell;
@@ -48,7 +48,9 @@ pub(crate) fn open_sample<R: Files>(rt: &R, name: &[u8]) -> io::Result<(R::File,
 }
 
 // Reads a short file whole, into a buffer with room for a byte more.
-fn read_whole<'a, R: Files>(rt: &R, name: &[u8], buffer: &'a mut [u8]) -> io::Result<&'a [u8]> {
+fn read_whole<'a, R: Files>(rt: &R, name: &[u8], buffer: &'a mut [u8]) -> io::Result<&'a [u8]>
+    ensures { IfOk result (λ bytes. length_of bytes.now ≤ length_of buffer.old) }
+{
     let mut file = open(rt, name)?;
     let count = fill(&mut file, buffer)?;
     Ok(&buffer[..count])
@@ -59,7 +61,9 @@ pub(crate) fn contents<'a, R: Files + Env + Print + Eprint>(
     rt: &R,
     place: usize,
     buffer: &'a mut [u8; LONGEST + 1],
-) -> Option<&'a [u8]> {
+) -> Option<&'a [u8]>
+    ensures { IfSome result (λ bytes. length_of bytes.now ≤ 4096) }
+{
     let word = Word::read(rt, place);
     let name = word.bytes();
     match read_whole(rt, name, buffer) {

@@ -1,7 +1,7 @@
 // Why a call is refused: the table of the numbers that calls answer (documents 01 and 02), as an error.
 #![tactic(auto)]
 
-ghost use Rattle.std.specs.Prelude.{◌≡◌};
+ghost use Rattle.std.specs.Prelude.{◌≡◌, Some};
 ghost use Rattle.refusals.specs.Refusals as spec;
 
 use std::error::Error;
@@ -47,7 +47,9 @@ impl Refusal {
     }
 
     // When it is given, in words.
-    fn words(self) -> &'static str {
+    fn words(self) -> &'static str
+        ensures { result.now ≡ spec.refusal_words self }
+    {
         match self {
             Refusal::Scheme => "the scheme code isn't four bytes naming one of the four",
             Refusal::Frame =>
@@ -94,6 +96,8 @@ pub fn number<T>(answer: &Result<T, Refusal>) -> u8
 }
 
 impl Display for Refusal {
+    ghost output = { λ r. Some (spec.refusal_words r) };
+
     fn fmt<W: fmt::Write>(&self, f: &mut Formatter<W>) -> fmt::Result {
         f.write_str(self.words())
     }

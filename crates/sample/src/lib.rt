@@ -12,7 +12,7 @@ ghost use Rattle.sample_spec.specs.Sample as spec;
 use aes::Key;
 use modes::Direction;
 pub use refusals::Refusal;
-pub use sample_spec::{Inputs, InputsRead, KEY_RECORD_SIZE};
+pub use sample_spec::{Inputs, InputsRead};
 use track::{Kid, Parameters};
 
 // The key for some parameters in a key record of KID and key: 5 and 6. That of an unprotected track is zero.
@@ -23,7 +23,7 @@ pub fn find_key(parameters: Parameters, key_record: &[u8]) -> Result<Key, Refusa
     if parameters.protected != 1 {
         return Ok(Key([0; Key::SIZE]));
     }
-    if key_record.len() != KEY_RECORD_SIZE {
+    if key_record.len() != Inputs::KEY_RECORD_SIZE {
         return Err(Refusal::KeyRecord);
     }
     let (kid, key) = key_record.split_at(Kid::SIZE);

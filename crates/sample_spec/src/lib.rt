@@ -6,9 +6,6 @@ use aes::Key;
 use subsample_spec::SubsampleMap;
 use track_spec::{Parameters, StartVector};
 
-// The bytes of a key record: the KID, then the key.
-pub const KEY_RECORD_SIZE: usize = 32;
-
 // What a caller hands in for a sample: the scheme's code, the track box, the auxiliary data and the key record.
 #[derive(Clone, Copy)]
 pub struct Inputs<'a> {
@@ -16,6 +13,11 @@ pub struct Inputs<'a> {
     pub track_box: &'a [u8],
     pub auxiliary: &'a [u8],
     pub key_record: &'a [u8],
+}
+
+impl Inputs<'_> {
+    // The bytes of a key record: the KID, then the key.
+    pub const KEY_RECORD_SIZE: usize = 32;
 }
 
 // What accepted inputs say.
