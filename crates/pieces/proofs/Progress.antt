@@ -16,7 +16,7 @@ use Rattle.stream_spec.specs.Stream.{Started}
 use Rattle.stream_spec.specs.Stream.{held_by, declared_by, start, due, fed_by, feed, output_after, end}
 use Rattle.stream_spec.specs.Demand3.{Feeding, Ending, Reply, count_at, due_at, feeding, ending, reply_at, piece_at, make}
 use Rattle.stream_spec.proofs.Accepted.{rules}
-use Rattle.stream_spec.proofs.Reached.{Rules, fed, at, at_sum}
+use Rattle.stream_spec.proofs.Reached.{Rules, fed, at, at_sum, position_at}
 use Rattle.stream_spec.proofs.Feeding.{released_fits}
 use Rattle.stream_spec.proofs.Demand3.{Moves, moves, accepts, begun, all_of_it}
 use Rattle.pieces.specs.Pieces.{answered, output}
@@ -129,6 +129,11 @@ module _ (c : Call) where
     -- what is released is no more than was fed, and that fits
     pub room : d ≤ length out₀
     room = omega (arith, at_sum q iv seen, g.done, within, g.call.room)
+
+    -- nor is it more than was fed
+    pub released_within : d ≤ t.progress.position
+    released_within =
+        omega (arith, at_sum q iv seen, g.done, ap (λ (t : Stream). t.progress.position) g.stream ∙ position_at q iv seen)
 
     -- the output keeps its length
     pub length_out : length out ≡ length out₀

@@ -9,7 +9,7 @@ use Rattle.stream_spec.specs.declared.Stream.{Stream}
 use Rattle.stream_spec.specs.Stream.{Started, Fed, Ended, as_fed_in_place}
 use Rattle.stream_spec.proofs.Feeding.{released_fits}
 use Rattle.pieces.proofs.LentEnd.{put_end}
-use Rattle.pieces.proofs.Progress.{room, length_out, begin, further, ended, start-refused, output_short}
+use Rattle.pieces.proofs.Progress.{room, released_within, length_out, begin, further, ended, start-refused, output_short}
 use Rattle.pieces.proofs.pieces_open.Goals as goal
 
 -- what a feeding releases, none if it is refused; and the record after it
@@ -47,7 +47,7 @@ overflow_add-done c =
     let l = c.loop-piece in
     let r = simp (length-take, length-drop) at (released_fits (as_fed_in_place c.feed.result c.feed.new.stream) _ _ _ c.feed.ensures.answer) in
     let n = c.unwrap_or-done.ensures ∙ count-fed c.feed.result c.feed.new.stream in
-    record { fits = omega (arith, r, n, length_out _ l.invariant, room _ l.invariant, l.invariant.call.output_fits) }
+    record { fits = omega (arith, r, n, length_out _ l.invariant, room _ l.invariant, released_within _ l.invariant, l.invariant.call.output_fits) }
 
 pub loop-piece-preserved : goal.loop-piece-preserved
 loop-piece-preserved c =

@@ -15,7 +15,7 @@ take_due-rest-requires c =
 
 pub overflow_sub-progress : goal.overflow_sub-progress
 overflow_sub-progress c =
-    held_below c.args.stream c.requires.0
+    omega (arith, held_below c.args.stream c.requires.0)
 
 pub returns : goal.returns
 unfolding due
